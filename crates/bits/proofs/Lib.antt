@@ -1,0 +1,6 @@
+pub mod BitAt
+pub mod CodeStep
+pub mod Unique
+pub mod SignedCode
+pub mod Answers
+pub mod Examples
