@@ -1,0 +1,74 @@
+use mathlib.Core.Path.{_≡_, refl, _∙_}
+use Prim.Native.Nat.{_≤_, _+_, _-_, _*_}
+use native.Mathlib.Omega.{arith}
+use native.Mathlib.Numerals.{add-one}
+use denote.Ref.{now}
+use lib.ListN.{length, length-set}
+use Rattle.picture.specs.Picture.{always, filled, seen, copied}
+use Rattle.picture.specs.Rows.{row, rows, run}
+use Rattle.picture.proofs.Laws.{Row, inside-row, rows-painted}
+use Rattle.picture.proofs.rows.copy_block.Statement.{statement}
+use Rattle.picture.proofs.rows.copy_block.Tie as tie
+use Rattle.picture.proofs.rows.copy_block.Reads as reads
+use Rattle.picture.proofs.rows.copy_block.Lts as lts
+use Rattle.picture.proofs.rows.store_row.Reads as store-row-reads
+
+abbrev Inv-loop : tie.InvT-loop
+Inv-loop plane₀ stride x y w h other r₀ plane r = (r ≤ h) × (length plane ≡ length plane₀) × (plane ≡ rows plane₀ stride x y (seen other stride x y) w r)
+
+abbrev μ-loop : tie.MeasureT-loop
+μ-loop plane₀ stride x y w h other r₀ plane r = h - r
+
+loop-holds : tie.Need-loop-holds Inv-loop μ-loop
+unfolding rows
+loop-holds c = (omega arith, refl, refl)
+
+-- the row of a turn lies within either plane
+lies : (c : tie.In-loop Inv-loop μ-loop) → let a = c .before .before .before .before .args in Row (a .stride) (a .x) (a .y) (a .w) (c .before .loop .r) (length (now (a .plane))) × Row (a .stride) (a .x) (a .y) (a .w) (c .before .loop .r) (length (now (a .other)))
+lies c = let p = c .before .before .before .before .pre in (inside-row (p .0) (c .loop-test .taken), inside-row (p .1 .1) (c .loop-test .taken))
+
+add-at : tie.Need-add-at Inv-loop μ-loop
+add-at c = omega (arith, lies c)
+
+mul-at : tie.Need-mul-at Inv-loop μ-loop
+mul-at c = omega (arith, lies c)
+
+add-at-2 : tie.Need-add-at-2 Inv-loop μ-loop
+add-at-2 c = omega (arith, lies c)
+
+store-row-requires : tie.Need-store-row-requires Inv-loop μ-loop
+store-row-requires c κs = omega (arith, lies (c .before))
+
+add-r : tie.Need-add-r Inv-loop μ-loop
+add-r c = omega arith
+
+loop-less : tie.Need-loop-less Inv-loop μ-loop
+loop-less c = omega arith
+
+loop-again : tie.Need-loop-again Inv-loop μ-loop
+unfolding rows seen run
+loop-again c = (omega arith, omega (arith, c .before .before .store-row .kept .0), rw add-one (cc))
+
+same-length : tie.Need-same-length Inv-loop μ-loop
+same-length c = omega arith
+
+returns : tie.Need-returns Inv-loop μ-loop
+unfolding copied
+returns c = let e : c .before .loop .r ≡ c .before .before .before .before .args .h = omega arith in c .before .loop .inv .2 ∙ rw e (rows-painted 0 _ _ (c .before .before .before .before .pre .0))
+
+pub copy-block-spec : {M : Type 1} → statement M
+copy-block-spec =
+    tie.close
+    (tie.spec
+    Inv-loop
+    μ-loop
+    loop-holds
+    add-at
+    mul-at
+    add-at-2
+    store-row-requires
+    add-r
+    loop-less
+    loop-again
+    same-length
+    returns)

@@ -1,0 +1,102 @@
+// Blocks of a plane whose rows are `stride` samples long, one after another.
+ghost use mathlib.Core.Path.{_≡_};
+ghost use Prim.Native.Nat.{_+_, _*_, _≤_};
+ghost use lib.ListN.{length, replicate};
+ghost use Rattle.picture.specs.Painted.{Inside};
+ghost use Rattle.picture.specs.Picture.{stored, copied, always, filled};
+ghost use Rattle.picture.specs.Rows.{row, run};
+
+// n samples of `block` from `from` on, as the first of sixteen.
+fn take_row(block: &[u8], from: usize, n: usize) -> [u8; 16]
+    requires { ⌜ (n ≤ 16) × (from + n ≤ length (now block)) ⌝ }
+    ensures { λ r. ⌜ r ≡ row (replicate 16 0) 0 (run (now (block .entry)) from) n ⌝ }
+{
+    let mut t = [0u8; 16];
+    let mut c = 0;
+    while c < n {
+        t[c] = block[from + c];
+        c += 1;
+    }
+    t
+}
+
+// n samples of `block` from `from` on, into `plane` from `at` on.
+// All are read before one is written: so the compiler moves a row of known length at once, though it cannot tell that the slices lie apart.
+pub fn store_row(plane: &mut [u8], at: usize, block: &[u8], from: usize, n: usize)
+    requires { ⌜ (n ≤ 16) × (at + n ≤ length (now plane)) × (from + n ≤ length (now block)) ⌝ }
+    ensures { λ _. ⌜ now (plane .exit) ≡ row (now (plane .entry)) at (run (now (block .entry)) from) n ⌝ }
+{
+    let t = take_row(block, from, n);
+    let mut c = 0;
+    while c < n {
+        plane[at + c] = t[c];
+        c += 1;
+    }
+}
+
+// The w × h samples of `block`, row after row, into `plane`: the first at column x of row y.
+pub fn store_block(
+    plane: &mut [u8],
+    stride: usize,
+    x: usize,
+    y: usize,
+    w: usize,
+    h: usize,
+    block: &[u8],
+)
+    requires { ⌜ Inside stride x y w h (length (now plane)) ⌝ }
+    requires { ⌜ (w ≤ 16) × (h * w ≤ length (now block)) ⌝ }
+    ensures { λ _. ⌜ now (plane .exit) ≡ stored (now (plane .entry)) stride x y w h (now (block .entry)) ⌝ }
+{
+    let mut r = 0;
+    while r < h {
+        store_row(plane, (y + r) * stride + x, block, r * w, w);
+        r += 1;
+    }
+}
+
+// The w × h samples at column x of row y, from `other` to the same places of `plane`.
+pub fn copy_block(
+    plane: &mut [u8],
+    stride: usize,
+    x: usize,
+    y: usize,
+    w: usize,
+    h: usize,
+    other: &[u8],
+)
+    requires { ⌜ Inside stride x y w h (length (now plane)) ⌝ }
+    requires { ⌜ (w ≤ 16) × Inside stride x y w h (length (now other)) ⌝ }
+    ensures { λ _. ⌜ now (plane .exit) ≡ copied (now (plane .entry)) stride x y w h (now (other .entry)) ⌝ }
+{
+    let mut r = 0;
+    while r < h {
+        let at = (y + r) * stride + x;
+        store_row(plane, at, other, at, w);
+        r += 1;
+    }
+}
+
+// v at n places from `at` on.
+fn fill_row(cells: &mut [u8], at: usize, n: usize, v: u8)
+    requires { ⌜ at + n ≤ length (now cells) ⌝ }
+    ensures { λ _. ⌜ now (cells .exit) ≡ row (now (cells .entry)) at (always v 0) n ⌝ }
+{
+    let mut c = 0;
+    while c < n {
+        cells[at + c] = v;
+        c += 1;
+    }
+}
+
+// v at the w × h places from column x of row y on.
+pub fn fill(cells: &mut [u8], stride: usize, x: usize, y: usize, w: usize, h: usize, v: u8)
+    requires { ⌜ Inside stride x y w h (length (now cells)) ⌝ }
+    ensures { λ _. ⌜ now (cells .exit) ≡ filled (now (cells .entry)) stride x y w h v ⌝ }
+{
+    let mut r = 0;
+    while r < h {
+        fill_row(cells, (y + r) * stride + x, w, v);
+        r += 1;
+    }
+}

@@ -1,0 +1,30 @@
+// A macroblock's three blocks, copied from the reference.
+ghost use mathlib.Core.Path.{_≡_};
+ghost use Prim.Native.Nat.{_*_};
+ghost use lib.ListN.{length};
+ghost use Rattle.picture.specs.Picture.{copied, Within, Sized};
+use crate::rows::copy_block;
+
+pub fn copy_macroblock_from(
+    luma: &mut [u8],
+    cb: &mut [u8],
+    cr: &mut [u8],
+    rluma: &[u8],
+    rcb: &[u8],
+    rcr: &[u8],
+    cols: usize,
+    rows: usize,
+    column: usize,
+    row: usize,
+)
+    requires { ⌜ Within cols rows column row ⌝ }
+    requires { ⌜ Sized cols rows (length (now luma)) (length (now cb)) (length (now cr)) ⌝ }
+    requires { ⌜ Sized cols rows (length (now rluma)) (length (now rcb)) (length (now rcr)) ⌝ }
+    ensures { λ _. ⌜ now (luma .exit) ≡ copied (now (luma .entry)) (16 * cols) (16 * column) (16 * row) 16 16 (now (rluma .entry)) ⌝ }
+    ensures { λ _. ⌜ now (cb .exit) ≡ copied (now (cb .entry)) (8 * cols) (8 * column) (8 * row) 8 8 (now (rcb .entry)) ⌝ }
+    ensures { λ _. ⌜ now (cr .exit) ≡ copied (now (cr .entry)) (8 * cols) (8 * column) (8 * row) 8 8 (now (rcr .entry)) ⌝ }
+{
+    copy_block(luma, 16 * cols, 16 * column, 16 * row, 16, 16, rluma);
+    copy_block(cb, 8 * cols, 8 * column, 8 * row, 8, 8, rcb);
+    copy_block(cr, 8 * cols, 8 * column, 8 * row, 8, 8, rcr);
+}
