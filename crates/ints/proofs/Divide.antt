@@ -4,12 +4,12 @@
 use mathlib.Core.Path.{_≡_, refl, sym, ap, ap₂, subst, _∙_}
 use mathlib.Core.Bool.{Bool, true, false}
 use Prim.Native.Nat.{ℕ, suc, _+_, _*_, _-_, _/_, _%_, _<_, _≤_}
-use native.Mathlib.Nat.{div-add-mod, mod-lt, mul-add-div, mul-add-mod-self-left, div-eq-of-lt, mod-eq-of-lt, div-self, mod-self, div-le-self, lt-of-le-of-lt, le-trans}
+use native.Mathlib.Nat.{div-add-mod, mod-lt, mul-add-div, mul-add-mod-self-left, div-eq-of-lt, mod-eq-of-lt, div-self, mod-self, div-le-self, lt-of-le-of-lt}
 use native.Mathlib.Omega.{arith}
 use borrow.Author.Tests.{ltb-true, ltb-false}
-use lib.Dec.{T, ltb}
-use lib.IntN.{ℤ, pos, negsuc, negℤ, natAbs, _+ℤ_, _-ℤ_}
-use lib.Signed.{mag, nonNeg, ltZ, quotZ, remZ, mag-rem}
+use lib.Dec.{ltb}
+use lib.IntN.{ℤ, pos, negsuc, negℤ, _+ℤ_, _-ℤ_}
+use lib.Signed.{mag, ltZ, quotZ, remZ, mag-rem}
 use mir.Syntax.{Width, w32, w64}
 use mir.Val.{SFits, Fits, toZ}
 use mir.Facts.{toZ-ofZ}
@@ -59,15 +59,15 @@ module _ (a k : ℕ) (h : 0 < k) where
           let g = restarts s in
           (omega (arith, z-rules, neg-z (pos (suc a / k)), g .0), omega (arith, z-rules, neg-z (pos (suc a % k)), g .1))
 
-pub below : (z : ℤ) (k : ℕ) → 0 < k → ltZ (remZ z (pos k)) (pos 0) ≡ true → (quotZ z (pos k) -ℤ pos 1 ≡ floorZ z k) × (remZ z (pos k) +ℤ pos k ≡ pos (modZ z k))
+pub quot-below : (z : ℤ) (k : ℕ) → 0 < k → ltZ (remZ z (pos k)) (pos 0) ≡ true → (quotZ z (pos k) -ℤ pos 1 ≡ floorZ z k) × (remZ z (pos k) +ℤ pos k ≡ pos (modZ z k))
 unfolding floorZ modZ
-below (pos a) k h e = absurd (omega (arith, ltb-true (a % k) 0 e))
-below (negsuc a) k h e = neg-below a k h e
+quot-below (pos a) k h e = absurd (omega (arith, ltb-true (a % k) 0 e))
+quot-below (negsuc a) k h e = neg-below a k h e
 
-pub here : (z : ℤ) (k : ℕ) → 0 < k → ltZ (remZ z (pos k)) (pos 0) ≡ false → (quotZ z (pos k) ≡ floorZ z k) × (remZ z (pos k) ≡ pos (modZ z k))
+pub quot-here : (z : ℤ) (k : ℕ) → 0 < k → ltZ (remZ z (pos k)) (pos 0) ≡ false → (quotZ z (pos k) ≡ floorZ z k) × (remZ z (pos k) ≡ pos (modZ z k))
 unfolding floorZ modZ
-here (pos a) k h e = (refl, refl)
-here (negsuc a) k h e = neg-here a k h e
+quot-here (pos a) k h e = (refl, refl)
+quot-here (negsuc a) k h e = neg-here a k h e
 
 -- ---- in 64 bits: v an i64, k a u32 cast to one
 abbrev pub quot64 : ℤ → ℕ → ℤ
@@ -103,20 +103,16 @@ module _ {v : ℤ} {k : ℕ} (f : SFits w64 v) (g : Fits w32 k) where
 
   module _ (h : 0 < k) where
     pub floor-below : ltZ (rem64 v k) (pos 0) ≡ true → read w64 (quot64 v k) -ℤ pos 1 ≡ floorZ v k
-    floor-below e = ap (λ q. q -ℤ pos 1) (toZ-ofZ quot-fits ∙ quot-is) ∙ below v k h (rw rem-is at e) .0
+    floor-below e = ap (λ q. q -ℤ pos 1) (toZ-ofZ quot-fits ∙ quot-is) ∙ quot-below v k h (rw rem-is at e) .0
 
     pub floor-here : ltZ (rem64 v k) (pos 0) ≡ false → read w64 (quot64 v k) ≡ floorZ v k
-    floor-here e = toZ-ofZ quot-fits ∙ quot-is ∙ here v k h (rw rem-is at e) .0
+    floor-here e = toZ-ofZ quot-fits ∙ quot-is ∙ quot-here v k h (rw rem-is at e) .0
 
     pub mod-below : ltZ (rem64 v k) (pos 0) ≡ true → rem64 v k +ℤ toZ w64 k ≡ pos (modZ v k)
-    mod-below e = ap₂ _+ℤ_ rem-is divisor ∙ below v k h (rw rem-is at e) .1
+    mod-below e = ap₂ _+ℤ_ rem-is divisor ∙ quot-below v k h (rw rem-is at e) .1
 
     pub mod-here : ltZ (rem64 v k) (pos 0) ≡ false → rem64 v k ≡ pos (modZ v k)
-    mod-here e = rem-is ∙ here v k h (rw rem-is at e) .1
+    mod-here e = rem-is ∙ quot-here v k h (rw rem-is at e) .1
 
     pub mod-fits : modZ v k < 4294967296
     mod-fits = omega (arith, floor-z k v h, g .fits)
-
--- a value that is a remainder goes to u32 as it is
-pub cast-mod : {z : ℤ} {m : ℕ} → z ≡ pos m → m < 4294967296 → T (nonNeg z) × Fits w32 (natAbs z)
-cast-mod e l = subst (λ (z : ℤ). T (nonNeg z) × Fits w32 (natAbs z)) (sym e) (tt, record { fits = l })

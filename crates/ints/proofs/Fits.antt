@@ -4,16 +4,16 @@
 --     fits (search ranges depth 20)     a long sum whose parameters are bound by `let record { a = a; .. } = c .fits in`
 --     search branches                   a return under tests: the test's outcome chooses the branch of `if_then_else_`
 --     search signed fits 20000 depth 30 where "its count of 1000 was spent"
--- A bound that neither a type nor a test gives goes in by `let h = .. in`, as `h : mag z < m`, `natAbs z ≤ m`, `a < m` or `z ≡ x`.
+-- A bound that neither a type nor a test gives goes in by `let h = .. in`, as `h : mag z < m`, `natAbs z ≤ m`, `a < m` or `z ≡ x`. In a product the literal stands first: `6 * x`.
 -- Assumes nothing.
 use mathlib.Core.Path.{_≡_, refl, sym, subst, ap, _∙_}
-use mathlib.Core.Bool.{Bool, true, false, cond, not, _||_}
+use mathlib.Core.Bool.{Bool, true, false, cond, not}
 use Prim.Native.Nat.{ℕ, zero, suc, _+_, _*_, _-_, _/_, _^_, _≤_, _<_, min}
 use native.Mathlib.Nat.{div-mul-le-self, mul-le-mul-left, mul-le-mul-right, div-lt-iff-lt-mul, div-le-of-le-mul, lt-of-lt-of-le, lt-of-le-of-lt, le-of-lt}
 use native.Mathlib.Omega.{arith}
 use borrow.Author.Tests.{ltb-true, ltb-false, leb-false}
 use lib.Dec.{T, lit<, leb, ltb, leb→le, ltb→lt, lt→ltb, le→leb}
-use lib.IntN.{ℤ, pos, negsuc, negℤ, natAbs, subℕ, _+ℤ_, _-ℤ_, _*ℤ_}
+use lib.IntN.{ℤ, pos, negsuc, negℤ, natAbs, subℕ, _+ℤ_, _*ℤ_}
 use lib.Signed.{mag, ltZ, leZ, _<ℤ_, _≤ℤ_, ltZ-yes, ltZ-no, leZ-yes, nonNeg, quotZ, shrZ}
 use mir.Syntax.{Width, w8, w16, w32, w64}
 use mir.Val.{SFits, Fits, bits, hbits, toZ, ofZ}
@@ -72,9 +72,6 @@ abs-mag (negsuc a) = omega arith
 
 pub within-abs : (m n : ℕ) (z : ℤ) → natAbs z ≤ m → T (ltb m n) → Within n z
 within-abs m n z h t = record { within = omega (arith, mag-abs z, ltb→lt m n t) }
-
-pub within-le : (m n : ℕ) (z : ℤ) → Within m z → T (leb m n) → Within n z
-within-le m n z h t = within-mag m n z (h .within) t
 
 -- by what a callee says of its result
 pub within-is : (n : ℕ) (z x : ℤ) → z ≡ x → Within n x → Within n z
@@ -227,6 +224,10 @@ fits-abs w z h = record { fits = omega (arith, abs-mag z, h .within) }
 pub fits-between : (w : Width) (z : ℤ) (k : ℕ) → ltZ z (pos 0) ≡ false → ltZ (pos k) z ≡ false → T (ltb k (2 ^ bits w)) → Fits w (natAbs z)
 fits-between w (pos a) k e f t = record { fits = lt-of-le-of-lt (ltb-false k a f) (ltb→lt k (2 ^ bits w) t) }
 fits-between w (negsuc a) k e f t = absurd (subst T e tt)
+
+-- a value that is known to be m
+pub cast-unsigned : (w : Width) {z : ℤ} {m : ℕ} → z ≡ pos m → m < 2 ^ bits w → T (nonNeg z) × Fits w (natAbs z)
+cast-unsigned w e l = subst (λ (z : ℤ). T (nonNeg z) × Fits w (natAbs z)) (sym e) (tt, record { fits = l })
 
 pub abs-back : (z : ℤ) → ltZ z (pos 0) ≡ false → pos (natAbs z) ≡ z
 abs-back (pos a) e = refl

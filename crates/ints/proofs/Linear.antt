@@ -1,19 +1,20 @@
 -- ℤ for `omega`, which reads naturals only: z is `up z - down z`, of which one is 0, and an order or an equation of ℤ is one of sums of them. In a proof:
 --     omega (arith, z-rules, add-z a b, times-z 6 c, ..)
 -- `z-rules` reads what is known and the goal: `x ≡ y`, `ltZ x y ≡ true` or `false`, `leZ` alike, `x <ℤ y`, `x ≤ℤ y`, `T (nonNeg x)`. Beside it stands a law for each sum, difference, multiple, minimum ..
--- that occurs, applied to its parts: `add-z`, `diff-z`, `neg-z`, `times-z`, `min-z`, `max-z`, `floor-z` (k a numeral), and for a range `mag-z z`, for a magnitude `abs-z z`.
+-- that occurs, applied to its parts: `add-z`, `diff-z`, `neg-z`, `times-z` (k * x) and `scaled-z` (x * k), `min-z`, `max-z`, `clamp-z`, `sat-z`, `clip1-z`, `floor-z` and `quot-z` (k a numeral),
+-- for a range `mag-z z`, and for a magnitude `abs-z z`.
 -- Assumes nothing.
-use mathlib.Core.Path.{_≡_, refl, sym, ap, subst}
+use mathlib.Core.Path.{_≡_, refl, sym, ap, subst, _∙_}
 use mathlib.Core.Bool.{Bool, true, false}
-use Prim.Native.Nat.{ℕ, zero, suc, _+_, _*_, _-_, _/_, _%_, _≤_, _<_, min, max}
-use native.Mathlib.Nat.{div-add-mod, mod-lt}
+use Prim.Native.Nat.{ℕ, zero, suc, _+_, _*_, _/_, _≤_, _<_, min, max}
+use native.Mathlib.Nat.{div-add-mod, mod-lt, zero-div}
 use native.Mathlib.Omega.{arith}
 use borrow.Author.Tests.{ltb-true, ltb-false, leb-true, leb-false, lt-ltb, le-ltb, le-leb, lt-leb}
-use lib.Dec.{T, leb→le, le→leb, ltb→lt, lt→ltb}
-use lib.IntN.{ℤ, pos, negsuc, negℤ, natAbs, subℕ, _+ℤ_, _-ℤ_, _*ℤ_}
-use lib.Signed.{mag, nonNeg, ltZ, leZ, _≤ℤ_, _<ℤ_}
-use Rattle.ints.specs.Z.{minZ, maxZ, floorZ, modZ}
-use Rattle.ints.proofs.Fits.{sub-ind, if-ind}
+use lib.Dec.{T}
+use lib.IntN.{ℤ, pos, negsuc, negℤ, natAbs, subℕ, _+ℤ_, _-ℤ_, _*ℤ_, *ℤ-comm}
+use lib.Signed.{mag, nonNeg, ltZ, leZ, _≤ℤ_, _<ℤ_, quotZ}
+use Rattle.ints.specs.Z.{minZ, maxZ, clampZ, satZ, clip1Z, floorZ, modZ, leastI32, mostI32}
+use Rattle.ints.proofs.Fits.{sub-ind, if-ind, clamp-ind}
 
 abbrev pub up : ℤ → ℕ
 up (pos n) = n
@@ -130,6 +131,9 @@ pub times-z : (k : ℕ) (x : ℤ) → (up (pos k *ℤ x) ≡ k * up x) × (down 
 times-z k (pos a) = omega arith
 times-z k (negsuc a) = omega (arith, neg-z (pos (k * suc a)))
 
+pub scaled-z : (k : ℕ) (x : ℤ) → (up (x *ℤ pos k) ≡ k * up x) × (down (x *ℤ pos k) ≡ k * down x)
+scaled-z k x = rw (*ℤ-comm x (pos k)) (times-z k x)
+
 -- ---- ranges: one part is 0, and `mag x` goes by the other
 pub mag-z : (x : ℤ) → (mag x + 1 ≡ max (up x + 1) (down x)) × (min (up x) (down x) ≡ 0)
 mag-z (pos n) = omega arith
@@ -148,8 +152,52 @@ pub max-z : (x y : ℤ) → up (maxZ x y) + (down x + down y) ≡ down (maxZ x y
 unfolding maxZ
 max-z x y = if-ind (λ z. up z + (down x + down y) ≡ down z + max (up x + down y) (up y + down x)) (ltZ x y) y x (λ e. omega (arith, z-rules)) (λ e. omega (arith, z-rules))
 
+-- a clamp with lo ≤ hi is a maximum of a minimum; name `min-z hi z` beside it
+pub clamp-is : (lo hi z : ℤ) → ltZ hi lo ≡ false → clampZ lo hi z ≡ maxZ lo (minZ hi z)
+clamp-is lo hi z h =
+    clamp-ind
+    (λ c. c ≡ maxZ lo (minZ hi z))
+    lo
+    hi
+    z
+    (λ e. omega (arith, z-rules, max-z lo (minZ hi z), min-z hi z))
+    (λ e f. omega (arith, z-rules, max-z lo (minZ hi z), min-z hi z))
+    (λ e f. omega (arith, z-rules, max-z lo (minZ hi z), min-z hi z))
+
+pub clamp-z : (lo hi z : ℤ) → ltZ hi lo ≡ false → up (clampZ lo hi z) + (down lo + down (minZ hi z)) ≡ down (clampZ lo hi z) + max (up lo + down (minZ hi z)) (up (minZ hi z) + down lo)
+clamp-z lo hi z h = omega (arith, max-z lo (minZ hi z), of-eq (clampZ lo hi z) (maxZ lo (minZ hi z)) (clamp-is lo hi z h))
+
+pub sat-z : (z : ℤ) → (up (satZ z) ≡ min (up z) 2147483647) × (down (satZ z) ≡ min (down z) 2147483648)
+unfolding satZ
+sat-z z =
+    clamp-ind
+    (λ c. (up c ≡ min (up z) 2147483647) × (down c ≡ min (down z) 2147483648))
+    leastI32
+    mostI32
+    z
+    (λ e. omega (arith, z-rules, mag-z z))
+    (λ e f. omega (arith, z-rules, mag-z z))
+    (λ e f. omega (arith, z-rules, mag-z z))
+
+pub clip1-z : (z : ℤ) → clip1Z z ≡ min (up z) 255
+unfolding clip1Z
+clip1-z z =
+    clamp-ind
+    (λ c. natAbs c ≡ min (up z) 255)
+    (pos 0)
+    (pos 255)
+    z
+    (λ e. omega (arith, z-rules, mag-z z))
+    (λ e f. omega (arith, z-rules, mag-z z))
+    (λ e f. omega (arith, z-rules, mag-z z, abs-z z))
+
 -- z is k times its quotient and the remainder, which is below k
 pub floor-z : (k : ℕ) (z : ℤ) → 0 < k → (k * up (floorZ z k) + modZ z k + down z ≡ up z + k * down (floorZ z k)) × (modZ z k < k)
 unfolding floorZ modZ
 floor-z k (pos a) h = (omega (arith, div-add-mod a k), mod-lt a h)
 floor-z k (negsuc a) h = (omega (arith, div-add-mod a k, mod-lt a h), omega arith)
+
+-- toward zero, each part by itself
+pub quot-z : (k : ℕ) (z : ℤ) → (up (quotZ z (pos k)) ≡ up z / k) × (down (quotZ z (pos k)) ≡ down z / k)
+quot-z k (pos a) = (refl, sym (zero-div k))
+quot-z k (negsuc a) = (neg-z (pos (suc a / k)) .0 ∙ sym (zero-div k), neg-z (pos (suc a / k)) .1)

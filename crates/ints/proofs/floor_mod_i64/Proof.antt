@@ -2,10 +2,11 @@
 use mathlib.Core.Path.{_∙_, sym, subst, ap}
 use native.Mathlib.Omega.{arith}
 use lib.IntN.{natAbs}
-use mir.Syntax.{w64}
+use mir.Syntax.{w32, w64}
 use mir.Val.{SFits}
 use mir.Facts.{toZ-ofZ}
-use Rattle.ints.proofs.Divide.{quot-fits, mod-below, mod-here, mod-fits, cast-mod}
+use Rattle.ints.proofs.Divide.{quot-fits, mod-below, mod-here, mod-fits}
+use Rattle.ints.proofs.Fits.{cast-unsigned}
 use borrow.Author.Needs.{needs}
 use Rattle.ints.proofs.floor_mod_i64.Statement.{statement}
 use Rattle.ints.proofs.floor_mod_i64.Tie as tie
@@ -18,12 +19,12 @@ add-result c =
 cast-result : tie.Need-cast-result
 cast-result c =
     let s = c .before in
-    cast-mod (toZ-ofZ (add-result c) ∙ mod-below (s .fits .v) (s .fits .k) (s .pre) (c .if1 .taken)) (mod-fits (s .fits .v) (s .fits .k) (s .pre))
+    cast-unsigned w32 (toZ-ofZ (add-result c) ∙ mod-below (s .fits .v) (s .fits .k) (s .pre) (c .if1 .taken)) (mod-fits (s .fits .v) (s .fits .k) (s .pre))
 
 cast-result-2 : tie.Need-cast-result-2
 cast-result-2 c =
     let s = c .before in
-    cast-mod (mod-here (s .fits .v) (s .fits .k) (s .pre) (c .if1 .left)) (mod-fits (s .fits .v) (s .fits .k) (s .pre))
+    cast-unsigned w32 (mod-here (s .fits .v) (s .fits .k) (s .pre) (c .if1 .left)) (mod-fits (s .fits .v) (s .fits .k) (s .pre))
 
 returns : tie.Need-returns
 returns c =
