@@ -228,6 +228,11 @@ impl List {
             for levels in [[i32::MAX; 16], [i32::MIN; 16], alternating] {
                 self.residual(quantiser, levels);
             }
+            for pair in saturating_pairs(quantiser.into()) {
+                let row = self.draw.below(4) as usize;
+                let samples = self.draw.bytes(16).try_into().expect("16 bytes");
+                self.all.push(Question::Residual { quantiser, samples, levels: in_row(pair, row) });
+            }
         }
     }
 
@@ -260,6 +265,9 @@ impl List {
             }
             let dc = self.dc(i32::MAX);
             self.chroma_plane(quantiser, dc, none);
+            let pairs = saturating_pairs(chroma_quantiser_index(quantiser.into()));
+            let ac = std::array::from_fn(|block| in_row(pairs[block], 1 + block % 3));
+            self.chroma_plane(quantiser, [0; 4], ac);
             self.toward_zero(quantiser);
         }
     }
@@ -286,6 +294,26 @@ impl List {
             }
         }
     }
+}
+
+/// Levels of one sign about the first whose product with the ladder's entry saturates, and far past it.
+fn saturating_pairs(index: u32) -> [(i32, i32); 6] {
+    let first = i32::MAX / DEQUANT_COEFF_TABLE[index as usize] as i32 + 1;
+    [
+        (first, first - 1),
+        (first, first + 7),
+        (1 - first, -first - 1),
+        (1 << 27, 1 << 29),
+        (i32::MAX, first),
+        (i32::MIN, -first - 2),
+    ]
+}
+
+/// Two levels in a row where the transform takes their difference: saturated products cancel, exact ones would not.
+fn in_row(pair: (i32, i32), row: usize) -> [i32; 16] {
+    let mut levels = [0; 16];
+    (levels[4 * row], levels[4 * row + 2]) = pair;
+    levels
 }
 
 /// Whether flooring the halved sums would move a sample that starts at 128.
