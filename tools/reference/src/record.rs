@@ -1,0 +1,25 @@
+//! A list of questions with their answers, as bytes for a program and as lines for a reader.
+
+/// Every record starts with this many bytes of fixed meaning (README.md); what follows them has its length there.
+pub const HEAD: usize = 32;
+
+pub trait Record {
+    /// The query line.
+    fn line(&self) -> String;
+    /// The answer line.
+    fn answer(&self) -> String;
+    /// The record: question and answer.
+    fn bytes(&self) -> Vec<u8>;
+}
+
+/// A first record of kind 0 that holds the number of the others, then the others.
+pub fn bytes(questions: &[impl Record]) -> Vec<u8> {
+    let mut out = vec![0; HEAD];
+    out[8..16].copy_from_slice(&(questions.len() as u64).to_le_bytes());
+    out.extend(questions.iter().flat_map(|question| question.bytes()));
+    out
+}
+
+pub fn lines(questions: &[impl Record]) -> String {
+    questions.iter().map(|question| format!("{} -> {}\n", question.line(), question.answer())).collect()
+}
