@@ -6,6 +6,7 @@ use mathlib.Core.Bool.{Bool, true, false, cond, _&&_, true≢false, false≢true
 use mathlib.Core.List.{List, [], _∷_}
 use Prim.Native.Nat.{ℕ, zero, suc, _+_, _-_, _*_, _/_, _%_, _≤_, _<_, suc-le-suc}
 use native.Mathlib.Nat.{add-assoc, mul-le-mul-right, mul-le-mul-left, mul-suc, mul-assoc, mul-comm, mul-left-comm, mul-pos, suc-mul, le-mul-of-pos-right, eq-or-lt-of-le, le-of-suc-le-suc, not-suc-le-zero, div-add-mod', mod-lt}
+use native.Mathlib.Numerals.{add-one}
 use native.Mathlib.Omega.{arith}
 use lib.Dec.{leb, ltb}
 use lib.Arith.{digits-div, digits-mod}
@@ -56,6 +57,16 @@ module _ {A : Type 0} where
       (λ e. rw e (getD-set-same (row l at v n) (at + n) (v n) d (omega (arith, row-length l at v n))))
       (λ lt. getD-set-other (row l at v n) (at + n) (at + k) (v n) d (omega arith) ∙ row-same l at v n k d lt (omega arith))
       (eq-or-lt-of-le (le-of-suc-le-suc h))
+
+  -- a turn of a loop that stores a row
+  pub row-more : {l : List A} (l₀ : List A) (at : ℕ) (v : ℕ → A) (n : ℕ) {x : A} → l ≡ row l₀ at v n → x ≡ v n → set l (at + n) x ≡ row l₀ at v (n + 1)
+  unfolding row
+  row-more l₀ at v n e f = rw (add-one n) (λ i. set (e i) (at + n) (f i))
+
+  -- a turn of a loop over rows
+  pub rows-more : {l l′ : List A} (l₀ : List A) (s x y : ℕ) (v : ℕ → ℕ → A) (w r : ℕ) → l ≡ rows l₀ s x y v w r → l′ ≡ row l ((y + r) * s + x) (v r) w → l′ ≡ rows l₀ s x y v w (r + 1)
+  unfolding rows
+  rows-more l₀ s x y v w r e f = rw (add-one r) (f ∙ ap (λ (m : List A). row m ((y + r) * s + x) (v r) w) e)
 
   -- only the values that are stored count
   pub row-values : (l : List A) (at : ℕ) (v v′ : ℕ → A) (n : ℕ) → ((k : ℕ) → k < n → v k ≡ v′ k) → row l at v n ≡ row l at v′ n
