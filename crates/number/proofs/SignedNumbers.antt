@@ -8,15 +8,10 @@ use native.Mathlib.Omega.{arith}
 use borrow.Author.Tests.{eq-eqb, ne-eqb}
 use lib.IntN.{ℤ, pos, negsuc}
 use lib.ListN.{length, getD}
-use Rattle.refusal.specs.Got.{Got, got, refused, mapGot}
 use Rattle.refusal.specs.Format.{Format}
-use Rattle.refusal.specs.declared.Refusal.{Refusal}
 use Rattle.refusal.proofs.Formats.{renamed, injective}
-use Rattle.number.specs.Number.{NumberRange, readNumber, numberAnswer}
-use Rattle.number.specs.SignedNumber.{sent, received, SignedNumberRange, signedNumber, readSigned, signedNumberAnswer}
-use Rattle.number.specs.declared.NumberAnswer.the-variants.{Number, Refused}
-use Rattle.number.specs.declared.SignedNumberAnswer.the-variants.{SignedNumber}
-use Rattle.number.specs.declared.SignedNumberAnswer.the-variants as signed
+use Rattle.number.specs.Number.{NumberRange}
+use Rattle.number.specs.SignedNumber.{sent, received, SignedNumberRange, signedNumber, readSigned}
 use Rattle.number.proofs.Numbers.{number-format, number-length, number-bytes, zero-or-more}
 
 pub received-sent : (z : ℤ) → received (sent z) ≡ z
@@ -64,24 +59,3 @@ signed-length z = number-length (sent z)
 pub signed-bytes : (z : ℤ) → SignedNumberRange z → (i : ℕ) → getD (signedNumber z) i 0 < 256
 unfolding signedNumber
 signed-bytes z h i = number-bytes (sent z) (sent-range z h) i
-
--- ---- what `read_number` answered, received
-module _ (at : ℕ) (s : List ℕ) where
-  pub answer-number : (n next : ℕ) → Number n next ≡ numberAnswer at (readNumber s) → SignedNumber (received n) next ≡ signedNumberAnswer at (readSigned s)
-  unfolding readSigned
-  answer-number n next = go (readNumber s)
-    where
-      go : (g : Got ℕ) → Number n next ≡ numberAnswer at g → SignedNumber (received n) next ≡ signedNumberAnswer at (mapGot received g)
-      go (got v m) e =
-          let x : n ≡ v = cc in
-          let y : next ≡ at + m = cc in
-          cc
-      go (refused r) e = absurd (let z : _≡_ {A = ℕ} 0 1 = cc in omega arith)
-
-  pub answer-refused : (q : Refusal) → Refused q ≡ numberAnswer at (readNumber s) → signed.Refused q ≡ signedNumberAnswer at (readSigned s)
-  unfolding readSigned
-  answer-refused q = go (readNumber s)
-    where
-      go : (g : Got ℕ) → Refused q ≡ numberAnswer at g → signed.Refused q ≡ signedNumberAnswer at (mapGot received g)
-      go (got v m) e = absurd (let z : _≡_ {A = ℕ} 0 1 = cc in omega arith)
-      go (refused r) e = cc
