@@ -1,0 +1,5 @@
+pub mod Partitions
+pub mod Precisions
+pub mod Flags
+pub mod Answers
+pub mod Examples

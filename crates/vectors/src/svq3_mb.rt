@@ -1,0 +1,154 @@
+// Partitions by mode, the mode being the number of a call, and the precision selector.
+ghost use mathlib.Core.Path.{_≡_};
+ghost use Prim.Native.Nat.{_≤_, _<_, _^_};
+ghost use lib.ListN.{length, drop};
+ghost use Rattle.bits.specs.Bits.{bitList};
+ghost use Rattle.vectors.specs.Modes.{partitionWidth, partitionHeight, numMotionVectors, offsetX, offsetY};
+ghost use Rattle.vectors.specs.Precision.{precisionNumber, precisionOf, oneFlag, bothFlags, precision, precisionAnswer};
+use bits::bitreader::bit_at;
+use refusal::Refusal;
+
+const WIDTHS: [usize; 8] = [16, 16, 8, 16, 8, 4, 8, 4];
+
+const HEIGHTS: [usize; 8] = [16, 16, 16, 8, 8, 8, 4, 4];
+
+const COUNTS: [usize; 8] = [0, 1, 2, 2, 4, 8, 8, 16];
+
+// The width of a partition in luma samples.
+pub fn partition_width(mode: u32) -> usize
+    requires { ⌜ mode ≤ 7 ⌝ }
+    ensures { λ r. ⌜ r ≡ partitionWidth mode ⌝ }
+{
+    let m = mode as usize;
+    WIDTHS[m]
+}
+
+// The height of a partition in luma samples.
+pub fn partition_height(mode: u32) -> usize
+    requires { ⌜ mode ≤ 7 ⌝ }
+    ensures { λ r. ⌜ r ≡ partitionHeight mode ⌝ }
+{
+    let m = mode as usize;
+    HEIGHTS[m]
+}
+
+// The number of partitions, each with one vector.
+pub fn num_motion_vectors(mode: u32) -> usize
+    requires { ⌜ mode ≤ 7 ⌝ }
+    ensures { λ r. ⌜ r ≡ numMotionVectors mode ⌝ }
+{
+    let m = mode as usize;
+    COUNTS[m]
+}
+
+// Where partition i starts in its macroblock, in luma samples.
+pub fn partition_offset_x(mode: u32, i: usize) -> usize
+    requires { ⌜ (mode ≤ 7) × (i < numMotionVectors mode) ⌝ }
+    ensures { λ r. ⌜ r ≡ offsetX mode i ⌝ }
+{
+    let w = partition_width(mode);
+    i % (16 / w) * w
+}
+
+pub fn partition_offset_y(mode: u32, i: usize) -> usize
+    requires { ⌜ (mode ≤ 7) × (i < numMotionVectors mode) ⌝ }
+    ensures { λ r. ⌜ r ≡ offsetY mode i ⌝ }
+{
+    let w = partition_width(mode);
+    let h = partition_height(mode);
+    i / (16 / w) * h
+}
+
+pub enum Svq3MvPrecision {
+    Fullpel,
+    Halfpel,
+    Thirdpel,
+}
+
+pub enum PrecisionAnswer {
+    // a precision, and the place after its bits
+    Precision(Svq3MvPrecision, usize),
+    Refused(Refusal),
+}
+
+// The number of a precision in a transcript.
+pub fn precision_number(p: Svq3MvPrecision) -> u32
+    ensures { λ r. ⌜ r ≡ precisionNumber p ⌝ }
+{
+    match p {
+        Svq3MvPrecision::Fullpel => 0,
+        Svq3MvPrecision::Halfpel => 1,
+        Svq3MvPrecision::Thirdpel => 2,
+    }
+}
+
+// The precision of a number 0 to 2.
+pub fn precision_of(n: u32) -> Svq3MvPrecision
+    ensures { λ r. ⌜ r ≡ precisionOf n ⌝ }
+{
+    match n {
+        0 => Svq3MvPrecision::Fullpel,
+        1 => Svq3MvPrecision::Halfpel,
+        _ => Svq3MvPrecision::Thirdpel,
+    }
+}
+
+// The precision selector at a place.
+pub fn read_inter_mv_precision_p_frame(
+    bits: &[u8],
+    at: usize,
+    thirdpel: bool,
+    halfpel: bool,
+) -> PrecisionAnswer
+    requires { ⌜ length (now bits) < 2 ^ 61 ⌝ }
+    ensures { λ r. ⌜ r ≡ precisionAnswer at (precision halfpel thirdpel (drop at (bitList (now (bits .entry))))) ⌝ }
+{
+    if halfpel {
+        if thirdpel {
+            return both_flags(bits, at);
+        }
+        return one_flag(bits, at, Svq3MvPrecision::Halfpel);
+    }
+    if thirdpel {
+        return one_flag(bits, at, Svq3MvPrecision::Thirdpel);
+    }
+    PrecisionAnswer::Precision(Svq3MvPrecision::Fullpel, at)
+}
+
+// The flag of p alone is set.
+fn one_flag(bits: &[u8], at: usize, p: Svq3MvPrecision) -> PrecisionAnswer
+    requires { ⌜ length (now bits) < 2 ^ 61 ⌝ }
+    ensures { λ r. ⌜ r ≡ precisionAnswer at (oneFlag p (drop at (bitList (now (bits .entry))))) ⌝ }
+{
+    if bits.len() <= at / 8 {
+        return PrecisionAnswer::Refused(Refusal::Truncated);
+    }
+    let next = at + 1;
+    if bit_at(bits, at) {
+        return PrecisionAnswer::Precision(p, next);
+    }
+    PrecisionAnswer::Precision(Svq3MvPrecision::Fullpel, next)
+}
+
+// Both flags are set.
+fn both_flags(bits: &[u8], at: usize) -> PrecisionAnswer
+    requires { ⌜ length (now bits) < 2 ^ 61 ⌝ }
+    ensures { λ r. ⌜ r ≡ precisionAnswer at (bothFlags (drop at (bitList (now (bits .entry))))) ⌝ }
+{
+    let n = bits.len();
+    if n <= at / 8 {
+        return PrecisionAnswer::Refused(Refusal::Truncated);
+    }
+    let second = at + 1;
+    if !bit_at(bits, at) {
+        return PrecisionAnswer::Precision(Svq3MvPrecision::Thirdpel, second);
+    }
+    if n <= second / 8 {
+        return PrecisionAnswer::Refused(Refusal::Truncated);
+    }
+    let next = second + 1;
+    if bit_at(bits, second) {
+        return PrecisionAnswer::Precision(Svq3MvPrecision::Fullpel, next);
+    }
+    PrecisionAnswer::Precision(Svq3MvPrecision::Halfpel, next)
+}
