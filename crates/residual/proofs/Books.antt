@@ -10,7 +10,7 @@ use borrow.Author.Tests.{lt-ltb, le-ltb, ltb-true, ltb-false, eq-eqb, ne-eqb, eq
 use lib.Dec.{T, lit<, eqb, ltb, leb, eqb→eq, ltb→lt, leb→le}
 use lib.IntN.{ℤ, pos, negsuc, negℤ, natAbs}
 use lib.ListN.{getD}
-use Rattle.residual.specs.Book.{half, magnitudes, runs, escape, span, least, chromaBase, escapeMagnitude, magnitude, run, levelOf, level, resolve, entryOf, escapeCode, oddCode, codeOfLevel, codeOf}
+use Rattle.residual.specs.Book.{half, magnitudes, runs, escape, positions, least, chromaBase, escapeMagnitude, magnitude, run, levelOf, level, resolve, entryOf, escapeCode, oddCode, codeOfLevel, codeOf}
 use Rattle.residual.specs.declared.svq3_coeff.ResidualBook.{ResidualBook}
 use Rattle.residual.specs.declared.svq3_coeff.ResidualBook.the-variants.{NormalScan, ChromaDc}
 use Rattle.residual.specs.declared.svq3_coeff.LevelRun.{LevelRun}
@@ -28,11 +28,11 @@ module _ (book : ResidualBook) (k : ℕ) where
   unfolding run
   entry-run h = rw (lt-ltb k (escape book) h)
 
-  escape-magnitude : escape book ≤ k → magnitude book k ≡ escapeMagnitude book (half k % span book) k
+  escape-magnitude : escape book ≤ k → magnitude book k ≡ escapeMagnitude book (half k % positions book) k
   unfolding magnitude
   escape-magnitude h = rw (le-ltb k (escape book) h)
 
-  escape-run : escape book ≤ k → run book k ≡ half k % span book
+  escape-run : escape book ≤ k → run book k ≡ half k % positions book
   unfolding run
   escape-run h = rw (le-ltb k (escape book) h)
 
@@ -54,21 +54,21 @@ four P (suc (suc (suc (suc r)))) h a b c d = absurd (omega arith)
 
 -- ---- runs and magnitudes
 runRight : ResidualBook → ℕ → Bool
-runRight book k = ltb (run book k) (span book)
+runRight book k = ltb (run book k) (positions book)
 
 magnitudeRight : ResidualBook → ℕ → Bool
 magnitudeRight book k = leb k (30 * magnitude book k)
 
-span-some : (book : ResidualBook) (h : ℕ) → h % span book < span book
-span-some NormalScan h = omega arith
-span-some ChromaDc h = omega arith
+positions-some : (book : ResidualBook) (h : ℕ) → h % positions book < positions book
+positions-some NormalScan h = omega arith
+positions-some ChromaDc h = omega arith
 
-pub run-below : (book : ResidualBook) (k : ℕ) → run book k < span book
+pub run-below : (book : ResidualBook) (k : ℕ) → run book k < positions book
 unfolding runRight run runs
 run-below book k =
-    by-code (λ k. run book k < span book) book k
-    (λ h. ltb→lt (run book k) (span book) (by-entries runRight tt tt book k h))
-    (λ h. rw (escape-run book k h) (span-some book (half k)))
+    by-code (λ k. run book k < positions book) book k
+    (λ h. ltb→lt (run book k) (positions book) (by-entries runRight tt tt book k h))
+    (λ h. rw (escape-run book k h) (positions-some book (half k)))
 
 -- a code other than 0 has a magnitude other than 0
 pub magnitude-some : (book : ResidualBook) (k : ℕ) → 0 < k → 0 < magnitude book k
@@ -78,7 +78,7 @@ magnitude-some book k s =
     (λ h. omega (arith, leb→le k (30 * magnitude book k) (by-entries magnitudeRight tt tt book k h)))
     (λ h. rw (escape-magnitude book k h) (far book h))
   where
-    far : (book : ResidualBook) → escape book ≤ k → 0 < escapeMagnitude book (half k % span book) k
+    far : (book : ResidualBook) → escape book ≤ k → 0 < escapeMagnitude book (half k % positions book) k
     far NormalScan h = omega (arith, least-range NormalScan (half k % 16) (omega arith))
     far ChromaDc h = omega arith
 
@@ -95,7 +95,7 @@ module _ (book : ResidualBook) (m r : ℕ) where
 oddRight : ResidualBook → ℕ → Bool
 oddRight book k = eqb (oddCode book (magnitude book k) (run book k)) (2 * half k - 1)
 
-escape-odd : (book : ResidualBook) (k : ℕ) → escape book ≤ k → oddCode book (escapeMagnitude book (half k % span book) k) (half k % span book) ≡ 2 * half k - 1
+escape-odd : (book : ResidualBook) (k : ℕ) → escape book ≤ k → oddCode book (escapeMagnitude book (half k % positions book) k) (half k % positions book) ≡ 2 * half k - 1
 unfolding escapeMagnitude escapeCode chromaBase least
 escape-odd NormalScan k h =
     let b = getD (least NormalScan) (half k % 16) 0 in
@@ -146,7 +146,7 @@ entry-says book m r e t =
 smallRight : ResidualBook → ℕ → ℕ → Bool
 smallRight book r n = cond (ltb (suc n) (getD (least book) r 0)) (goodEntry book (suc n) r (entryOf (suc n) r (magnitudes book) (runs book))) true
 
-small-says : (book : ResidualBook) (n r : ℕ) → r < span book → suc n < getD (least book) r 0 → T (goodEntry book (suc n) r (entryOf (suc n) r (magnitudes book) (runs book)))
+small-says : (book : ResidualBook) (n r : ℕ) → r < positions book → suc n < getD (least book) r 0 → T (goodEntry book (suc n) r (entryOf (suc n) r (magnitudes book) (runs book)))
 unfolding smallRight goodEntry least magnitudes runs entryOf
 small-says book n r h l =
     subst (λ (t : Bool). T (cond t (goodEntry book (suc n) r (entryOf (suc n) r (magnitudes book) (runs book))) true)) (lt-ltb (suc n) (getD (least book) r 0) l)
@@ -164,7 +164,7 @@ chroma-says m r q h e s l g =
           (escape-magnitude ChromaDc k (omega arith) ∙ ap (λ (n : ℕ). escapeMagnitude ChromaDc n k) j ∙ omega arith, escape-run ChromaDc k (omega arith) ∙ j);
     }
 
-escape-says : (book : ResidualBook) (m r : ℕ) → r < span book → getD (least book) r 0 ≤ m → Says book m r (escapeCode book m r)
+escape-says : (book : ResidualBook) (m r : ℕ) → r < positions book → getD (least book) r 0 ≤ m → Says book m r (escapeCode book m r)
 unfolding escapeCode escapeMagnitude least chromaBase
 escape-says NormalScan m r h l =
     record {
@@ -181,7 +181,7 @@ escape-says ChromaDc m r h l =
     (λ l. chroma-says m 3 3 (lit< tt) refl (lit< tt) (omega arith) (omega arith))
     l
 
-pub odd-says : (book : ResidualBook) (m r : ℕ) → 0 < m → r < span book → Says book m r (oddCode book m r)
+pub odd-says : (book : ResidualBook) (m r : ℕ) → 0 < m → r < positions book → Says book m r (oddCode book m r)
 odd-says book (suc n) r s h = go (ltb (suc n) (getD (least book) r 0)) refl
   where
     go : (t : Bool) → ltb (suc n) (getD (least book) r 0) ≡ t → Says book (suc n) r (oddCode book (suc n) r)
@@ -200,18 +200,21 @@ signed-code book k (suc m) r h s o = go (eqb (k % 2) 1) refl
     go false e = let i = eqb-false (k % 2) 1 e in ap (λ (n : ℕ). n + 1) o ∙ omega arith
 
 -- the code of what a code says is that code
+pub code-of-pair : (book : ResidualBook) (k : ℕ) → 0 < k → codeOfLevel book (level book k) (run book k) ≡ k
+unfolding level
+code-of-pair book k h = signed-code book k (magnitude book k) (run book k) h (magnitude-some book k h) (odd-of-code book k)
+
 pub code-of-resolve : (book : ResidualBook) (k : ℕ) → codeOf book (resolve book k) ≡ k
-unfolding codeOf resolve level
+unfolding codeOf resolve
 code-of-resolve book zero = refl
-code-of-resolve book (suc n) =
-    rw (ne-eqb (suc n) 0 (omega arith)) (signed-code book (suc n) (magnitude book (suc n)) (run book (suc n)) (omega arith) (magnitude-some book (suc n) (omega arith)) (odd-of-code book (suc n)))
+code-of-resolve book (suc n) = rw (ne-eqb (suc n) 0 (omega arith)) (code-of-pair book (suc n) (omega arith))
 
 -- and the code of a level other than 0 and a run of the book says them
 says-signed : (book : ResidualBook) (k m r : ℕ) (l : ℤ) → 0 < k → levelOf k m ≡ l → (magnitude book k ≡ m) × (run book k ≡ r) → resolve book k ≡ Pair l r
 unfolding resolve level
 says-signed book k m r l h e s = rw (ne-eqb k 0 (omega arith), s .0, s .1, e)
 
-pub resolve-code : (book : ResidualBook) (l : ℤ) (r : ℕ) → 0 < natAbs l → r < span book → resolve book (codeOfLevel book l r) ≡ Pair l r
+pub resolve-code : (book : ResidualBook) (l : ℤ) (r : ℕ) → 0 < natAbs l → r < positions book → resolve book (codeOfLevel book l r) ≡ Pair l r
 unfolding codeOfLevel levelOf
 resolve-code book (pos m) r s h =
     let p = oddCode book m r in
@@ -252,7 +255,7 @@ magnitude-most book k b =
     (λ h. leb→le (magnitude book k) (most book) (by-entries mostRight tt tt book k h))
     (λ h. rw (escape-magnitude book k h) (far book h))
   where
-    far : (book : ResidualBook) → escape book ≤ k → escapeMagnitude book (half k % span book) k ≤ most book
+    far : (book : ResidualBook) → escape book ≤ k → escapeMagnitude book (half k % positions book) k ≤ most book
     far NormalScan h = omega (arith, least-range NormalScan (half k % 16) (omega arith))
     far ChromaDc h = omega (arith, base-range k h)
 

@@ -13,7 +13,7 @@ use lib.Signed.{mag}
 use mir.Syntax.{w32}
 use mir.Val.{toZ, ofZ}
 use mir.Facts.{toZ-ofZ}
-use Rattle.residual.specs.Book.{half, magnitudes, runs, escape, span, least, chromaBase, escapeMagnitude, magnitude, run, levelOf, level, resolve}
+use Rattle.residual.specs.Book.{half, magnitudes, runs, escape, positions, least, chromaBase, escapeMagnitude, magnitude, run, levelOf, level, resolve}
 use Rattle.residual.specs.declared.svq3_coeff.ResidualBook.{ResidualBook}
 use Rattle.residual.specs.declared.svq3_coeff.ResidualBook.the-variants.{NormalScan, ChromaDc}
 use Rattle.residual.specs.declared.svq3_coeff.LevelRun.{LevelRun}
@@ -58,7 +58,7 @@ pub by-entries : (f : ResidualBook → ℕ → Bool) → T (every (f NormalScan)
 by-entries f n c NormalScan k h = at (f NormalScan) 31 n k h
 by-entries f n c ChromaDc k h = at (f ChromaDc) 23 c k h
 
-pub by-runs : (f : ResidualBook → ℕ → Bool) → T (every (f NormalScan) 16) → T (every (f ChromaDc) 4) → (book : ResidualBook) (r : ℕ) → r < span book → T (f book r)
+pub by-runs : (f : ResidualBook → ℕ → Bool) → T (every (f NormalScan) 16) → T (every (f ChromaDc) 4) → (book : ResidualBook) (r : ℕ) → r < positions book → T (f book r)
 by-runs f n c NormalScan r h = at (f NormalScan) 16 n r h
 by-runs f n c ChromaDc r h = at (f ChromaDc) 4 c r h
 
@@ -70,7 +70,7 @@ halved k = omega arith
 leastRight : ResidualBook → ℕ → Bool
 leastRight book r = leb 1 (getD (least book) r 0) && leb (getD (least book) r 0) 5
 
-pub least-range : (book : ResidualBook) (r : ℕ) → r < span book → (1 ≤ getD (least book) r 0) × (getD (least book) r 0 ≤ 5)
+pub least-range : (book : ResidualBook) (r : ℕ) → r < positions book → (1 ≤ getD (least book) r 0) × (getD (least book) r 0 ≤ 5)
 unfolding leastRight least
 least-range book r h =
     let t = by-runs leastRight tt tt book r h in

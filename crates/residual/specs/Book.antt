@@ -2,10 +2,12 @@
 -- Assumes nothing.
 use mathlib.Core.Bool.{Bool, cond, _&&_}
 use mathlib.Core.List.{List, [], _∷_}
-use Prim.Native.Nat.{ℕ, zero, suc, _+_, _-_, _*_, _/_, _%_}
+use Prim.Native.Nat.{ℕ, zero, suc, _+_, _-_, _*_, _/_, _%_, _<_}
 use lib.Dec.{eqb, ltb}
-use lib.IntN.{ℤ, pos, negsuc, negℤ}
+use lib.IntN.{ℤ, pos, negsuc, negℤ, natAbs}
 use lib.ListN.{getD}
+use Rattle.bits.specs.Bits.{odd}
+use Rattle.bits.specs.Code.{CodeRange}
 use Rattle.residual.specs.declared.svq3_coeff.ResidualBook.{ResidualBook}
 use Rattle.residual.specs.declared.svq3_coeff.ResidualBook.the-variants.{NormalScan, ChromaDc}
 use Rattle.residual.specs.declared.svq3_coeff.LevelRun.{LevelRun}
@@ -29,10 +31,10 @@ abbrev pub escape : ResidualBook → ℕ
 escape NormalScan = 31
 escape ChromaDc = 23
 
--- runs are below this number, and an escape's run is its half modulo it
-abbrev pub span : ResidualBook → ℕ
-span NormalScan = 16
-span ChromaDc = 4
+-- the positions of a list: runs are below their number, and an escape's run is its half modulo it
+abbrev pub positions : ResidualBook → ℕ
+positions NormalScan = 16
+positions ChromaDc = 4
 
 -- by run: the least magnitude that an escape says, and the code base of the chroma DC book
 unfoldable pub least : ResidualBook → List ℕ
@@ -48,14 +50,14 @@ escapeMagnitude NormalScan r k = (k - 31) / 32 + getD (least NormalScan) r 0
 escapeMagnitude ChromaDc r k = (k - getD chromaBase r 0) / 8 + 3
 
 unfoldable pub run : ResidualBook → ℕ → ℕ
-run book k = cond (ltb k (escape book)) (getD (runs book) (half k) 0) (half k % span book)
+run book k = cond (ltb k (escape book)) (getD (runs book) (half k) 0) (half k % positions book)
 
 unfoldable pub magnitude : ResidualBook → ℕ → ℕ
-magnitude book k = cond (ltb k (escape book)) (getD (magnitudes book) (half k) 0) (escapeMagnitude book (half k % span book) k)
+magnitude book k = cond (ltb k (escape book)) (getD (magnitudes book) (half k) 0) (escapeMagnitude book (half k % positions book) k)
 
 -- odd codes are positive
 unfoldable pub levelOf : ℕ → ℕ → ℤ
-levelOf k m = cond (eqb (k % 2) 1) (pos m) (negℤ (pos m))
+levelOf k m = cond (odd k) (pos m) (negℤ (pos m))
 
 unfoldable pub level : ResidualBook → ℕ → ℤ
 level book k = levelOf k (magnitude book k)
@@ -88,3 +90,8 @@ codeOfLevel book (negsuc m) r = oddCode book (suc m) r + 1
 unfoldable pub codeOf : ResidualBook → LevelRun → ℕ
 codeOf book End = 0
 codeOf book (Pair l r) = codeOfLevel book l r
+
+-- what a code can say: a level other than 0, a run of the book, and a code of at most 31 data bits
+abbrev pub InBook : ResidualBook → LevelRun → Type 0
+InBook book End = Unit {0}
+InBook book (Pair l r) = (0 < natAbs l) × (r < positions book) × CodeRange (codeOfLevel book l r)
