@@ -1,7 +1,6 @@
 pub mod Table
 pub mod Kept
 pub mod Patterns
-pub mod Signs
 pub mod Entries
 pub mod Books
 pub mod Rasters
