@@ -11,3 +11,5 @@ pub mod Froms
 pub mod Unique
 pub mod Blocks
 pub mod Reading
+pub mod Ranges
+pub mod Examples
