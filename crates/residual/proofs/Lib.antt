@@ -1,7 +1,6 @@
 pub mod Table
 pub mod Kept
 pub mod Patterns
-pub mod Signs
 pub mod Entries
 pub mod Books
 pub mod Rasters
@@ -12,3 +11,5 @@ pub mod Froms
 pub mod Unique
 pub mod Blocks
 pub mod Reading
+pub mod Ranges
+pub mod Examples

@@ -4,7 +4,7 @@ ghost use Prim.Native.Nat.{_+_, _≤_, _<_, _^_};
 ghost use lib.ListN.{length, take, drop};
 ghost use lib.Seq.{sets};
 ghost use Rattle.bits.specs.Bits.{bitList};
-ghost use Rattle.residual.specs.Book.{positions, levelOf, level, run, resolve};
+ghost use Rattle.residual.specs.Book.{positions, half, levelOf, level, run, resolve};
 ghost use Rattle.residual.specs.Levels.{levelRun, block, stepAnswer, Decoded};
 use crate::svq3_scan::place_of;
 use crate::svq3_scan::positions_of;
@@ -28,126 +28,14 @@ pub enum LevelRun {
     Pair(i32, u32),
 }
 
-// Code 0 ends a list. Odd codes are positive, even ones negative.
-const NORMAL_SCAN_LEVELS: [i32; 31] = [
-    0,
-    1,
-    -1,
-    1,
-    -1,
-    1,
-    -1,
-    2,
-    -2,
-    1,
-    -1,
-    1,
-    -1,
-    1,
-    -1,
-    3,
-    -3,
-    2,
-    -2,
-    2,
-    -2,
-    1,
-    -1,
-    1,
-    -1,
-    1,
-    -1,
-    1,
-    -1,
-    4,
-    -4,
-];
+// Magnitude and run by (code + 1) / 2: codes 2 h - 1 and 2 h have those of entry h, the one positive, the other negative.
+const NORMAL_SCAN_MAGNITUDES: [u32; 16] = [0, 1, 1, 1, 2, 1, 1, 1, 3, 2, 2, 1, 1, 1, 1, 4];
 
-const NORMAL_SCAN_RUNS: [u32; 31] = [
-    0,
-    0,
-    0,
-    1,
-    1,
-    2,
-    2,
-    0,
-    0,
-    3,
-    3,
-    4,
-    4,
-    5,
-    5,
-    0,
-    0,
-    1,
-    1,
-    2,
-    2,
-    6,
-    6,
-    7,
-    7,
-    8,
-    8,
-    9,
-    9,
-    0,
-    0,
-];
+const NORMAL_SCAN_RUNS: [u32; 16] = [0, 0, 1, 2, 0, 3, 4, 5, 0, 1, 2, 6, 7, 8, 9, 0];
 
-const CHROMA_DC_LEVELS: [i32; 23] = [
-    0,
-    1,
-    -1,
-    2,
-    -2,
-    1,
-    -1,
-    3,
-    -3,
-    2,
-    -2,
-    1,
-    -1,
-    1,
-    -1,
-    4,
-    -4,
-    3,
-    -3,
-    2,
-    -2,
-    2,
-    -2,
-];
+const CHROMA_DC_MAGNITUDES: [u32; 12] = [0, 1, 2, 1, 3, 2, 1, 1, 4, 3, 2, 2];
 
-const CHROMA_DC_RUNS: [u32; 23] = [
-    0,
-    0,
-    0,
-    0,
-    0,
-    1,
-    1,
-    0,
-    0,
-    1,
-    1,
-    2,
-    2,
-    3,
-    3,
-    0,
-    0,
-    1,
-    1,
-    2,
-    2,
-    3,
-    3,
-];
+const CHROMA_DC_RUNS: [u32; 12] = [0, 0, 0, 1, 0, 1, 2, 3, 0, 1, 2, 3];
 
 // The first code that is no entry of the tables.
 const NORMAL_SCAN_ESCAPE: u32 = 31;
@@ -169,15 +57,25 @@ fn level_of(code: u32, magnitude: u32) -> i32
     if code % 2 == 1 { m } else { -m }
 }
 
+// (code + 1) / 2, of any code.
+fn half_of(code: u32) -> u32
+    ensures { λ r. ⌜ r ≡ half code ⌝ }
+{
+    code / 2 + code % 2
+}
+
 fn normal_level_run(code: u32) -> LevelRun
     ensures { λ r. ⌜ r ≡ LevelRun.Pair (level ResidualBook.NormalScan code) (run ResidualBook.NormalScan code) ⌝ }
 {
+    let half = half_of(code);
     if code < NORMAL_SCAN_ESCAPE {
-        let i = code as usize;
-        return LevelRun::Pair(NORMAL_SCAN_LEVELS[i], NORMAL_SCAN_RUNS[i]);
+        let i = half as usize;
+        return LevelRun::Pair(
+            level_of(code, NORMAL_SCAN_MAGNITUDES[i]),
+            NORMAL_SCAN_RUNS[i],
+        );
     }
-    // (code + 1) / 2, where that sum could wrap
-    let run = (code / 2 + code % 2) % 16;
+    let run = half % 16;
     let magnitude = (code - NORMAL_SCAN_ESCAPE) / 32 + NORMAL_SCAN_ESCAPE_LEVEL_BASE[run as usize];
     LevelRun::Pair(level_of(code, magnitude), run)
 }
@@ -185,11 +83,12 @@ fn normal_level_run(code: u32) -> LevelRun
 fn chroma_dc_level_run(code: u32) -> LevelRun
     ensures { λ r. ⌜ r ≡ LevelRun.Pair (level ResidualBook.ChromaDc code) (run ResidualBook.ChromaDc code) ⌝ }
 {
+    let half = half_of(code);
     if code < CHROMA_DC_ESCAPE {
-        let i = code as usize;
-        return LevelRun::Pair(CHROMA_DC_LEVELS[i], CHROMA_DC_RUNS[i]);
+        let i = half as usize;
+        return LevelRun::Pair(level_of(code, CHROMA_DC_MAGNITUDES[i]), CHROMA_DC_RUNS[i]);
     }
-    let run = (code / 2 + code % 2) % 4;
+    let run = half % 4;
     let magnitude = (code - CHROMA_DC_ESCAPE_CODE_BASE[run as usize]) / 8 + 3;
     LevelRun::Pair(level_of(code, magnitude), run)
 }

@@ -1,11 +1,12 @@
 -- `residual::svq3_coeff::level_of` answers `levelOf`: one return for each sign.
 use borrow.Author.Needs.{needs}
-use Rattle.residual.proofs.Signs.{minus-fits, positive, negative}
+use Rattle.bits.proofs.SignedCode.{neg-fits}
+use Rattle.residual.proofs.Entries.{positive, negative}
 use Rattle.residual.proofs.svq3_coeff.level_of.Statement.{statement}
 use Rattle.residual.proofs.svq3_coeff.level_of.Tie as tie
 
 sub-result : tie.Need-sub-result
-sub-result c = minus-fits (c .before .args .magnitude) (c .before .pre)
+sub-result c = neg-fits (c .before .args .magnitude) (c .before .pre)
 
 returns : tie.Need-returns
 returns c = positive (c .before .args .code) (c .before .args .magnitude) (c .if1 .taken) (c .before .pre)
