@@ -85,6 +85,11 @@ unfolding partitionWidth partitionHeight numMotionVectors
 num-is zero h k = absurd (omega arith)
 num-is (suc m) h k = eqb→eq _ _ (all-at (λ m. eqb (numMotionVectors (suc m)) (16 / partitionWidth (suc m) * (16 / partitionHeight (suc m)))) 7 tt m (omega arith))
 
+-- at most sixteen
+pub num-most : (mode : ℕ) → mode ≤ 7 → numMotionVectors mode ≤ 16
+unfolding numMotionVectors
+num-most mode k = leb→le _ _ (all-at (λ m. leb (numMotionVectors m) 16) 8 tt mode (omega arith))
+
 -- ---- where a partition starts, in units of u samples
 module _ (u mode i : ℕ) (some : 0 < u) (c : Cut u mode) where
   scaled : (n w : ℕ) → w / u * u ≡ w → n * w / u ≡ n * (w / u)

@@ -1,0 +1,15 @@
+pub mod Table
+pub mod Kept
+pub mod Patterns
+pub mod Entries
+pub mod Books
+pub mod Rasters
+pub mod Steps
+pub mod Stores
+pub mod Gots
+pub mod Froms
+pub mod Unique
+pub mod Blocks
+pub mod Reading
+pub mod Ranges
+pub mod Examples

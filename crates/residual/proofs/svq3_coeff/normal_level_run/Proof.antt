@@ -1,0 +1,50 @@
+-- `residual::svq3_coeff::normal_level_run`: below the escape by the tables, from it on by the escape's formula.
+use native.Mathlib.Omega.{arith}
+use borrow.Author.Needs.{needs}
+use Prim.Native.Nat.{_%_}
+use Rattle.residual.specs.Book.{magnitudes, runs, escapeMagnitude, least}
+use Rattle.residual.specs.declared.svq3_coeff.ResidualBook.the-variants.{NormalScan}
+use Rattle.residual.proofs.Entries.{least-range, entry-fits, entry-said, escape-said}
+use Rattle.residual.proofs.svq3_coeff.normal_level_run.Statement.{statement}
+use Rattle.residual.proofs.svq3_coeff.normal_level_run.Tie as tie
+
+level-of-requires : tie.Need-level-of-requires
+unfolding magnitudes
+level-of-requires c κs = entry-fits NormalScan (c .before .before .args .code) (c .before .half-of .result) (c .before .half-of .ensures) (c .if1 .taken)
+
+returns : tie.Need-returns
+unfolding magnitudes runs
+returns c =
+    entry-said NormalScan (c .before .before .before .args .code) (c .before .before .half-of .result) (c .before .before .half-of .ensures) (c .level-of .result) (c .level-of .ok) (c .before .if1 .taken) (c .level-of .ensures)
+
+add-magnitude : tie.Need-add-magnitude
+unfolding least
+add-magnitude c = omega (arith, least-range NormalScan (c .before .half-of .result % 16) (omega arith))
+
+level-of-requires-2 : tie.Need-level-of-requires-2
+unfolding least
+level-of-requires-2 c κs = omega (arith, least-range NormalScan (c .before .half-of .result % 16) (omega arith))
+
+returns-2 : tie.Need-returns-2
+unfolding escapeMagnitude least
+returns-2 c =
+    escape-said NormalScan (c .before .before .before .args .code) (c .before .before .half-of .result) (c .before .before .half-of .ensures) (c .level-of2 .result) (c .level-of2 .ok) (c .before .if1 .left) (c .level-of2 .ensures)
+
+pub normal-level-run-spec : {M : Type 1} → statement M
+normal-level-run-spec =
+    tie.close
+    (tie.spec
+    (λ c κs. search needs)
+    (λ c. search needs)
+    (λ c. search needs)
+    (λ c. search needs)
+    level-of-requires
+    (λ c. search needs)
+    (λ c. search needs)
+    returns
+    (λ c. search needs)
+    (λ c. search needs)
+    (λ c. search needs)
+    add-magnitude
+    level-of-requires-2
+    returns-2)

@@ -1,0 +1,5 @@
+pub mod Lists
+pub mod Pattern
+pub mod Book
+pub mod Scan
+pub mod Levels

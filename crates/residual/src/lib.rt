@@ -1,0 +1,4 @@
+// What is read of a residual: the pattern, the (level, run) codes and the lists of levels.
+pub mod svq3_cbp;
+pub mod svq3_coeff;
+pub mod svq3_scan;

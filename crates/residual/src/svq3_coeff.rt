@@ -1,0 +1,205 @@
+// The (level, run) code books, and the lists of levels that their codes make. The books and lists are those of specs/Book.antt and specs/Levels.antt.
+ghost use mathlib.Core.Path.{_≡_};
+ghost use Prim.Native.Nat.{_+_, _≤_, _<_, _^_};
+ghost use lib.ListN.{length, take, drop};
+ghost use lib.Seq.{sets};
+ghost use Rattle.bits.specs.Bits.{bitList};
+ghost use Rattle.residual.specs.Book.{positions, half, levelOf, level, run, resolve};
+ghost use Rattle.residual.specs.Levels.{levelRun, block, stepAnswer, Decoded};
+use crate::svq3_scan::place_of;
+use crate::svq3_scan::positions_of;
+use bits::svq3::CodeAnswer;
+use bits::svq3::read_universal_code;
+use refusal::Refusal;
+
+// The inter macroblock's two books.
+pub enum ResidualBook {
+    // luma blocks and chroma AC blocks
+    NormalScan,
+    // the 2×2 chroma DC block
+    ChromaDc,
+}
+
+// What a code says.
+pub enum LevelRun {
+    // the end of the list
+    End,
+    // a level, and the number of positions that it leaves out before it
+    Pair(i32, u32),
+}
+
+// Magnitude and run by (code + 1) / 2: codes 2 h - 1 and 2 h have those of entry h, the one positive, the other negative.
+const NORMAL_SCAN_MAGNITUDES: [u32; 16] = [0, 1, 1, 1, 2, 1, 1, 1, 3, 2, 2, 1, 1, 1, 1, 4];
+
+const NORMAL_SCAN_RUNS: [u32; 16] = [0, 0, 1, 2, 0, 3, 4, 5, 0, 1, 2, 6, 7, 8, 9, 0];
+
+const CHROMA_DC_MAGNITUDES: [u32; 12] = [0, 1, 2, 1, 3, 2, 1, 1, 4, 3, 2, 2];
+
+const CHROMA_DC_RUNS: [u32; 12] = [0, 0, 0, 1, 0, 1, 2, 3, 0, 1, 2, 3];
+
+// The first code that is no entry of the tables.
+const NORMAL_SCAN_ESCAPE: u32 = 31;
+
+const CHROMA_DC_ESCAPE: u32 = 23;
+
+// By run: the least magnitude of an escape.
+const NORMAL_SCAN_ESCAPE_LEVEL_BASE: [u32; 16] = [5, 3, 3, 2, 2, 2, 2, 2, 2, 2, 1, 1, 1, 1, 1, 1];
+
+// By run: the code from which magnitude 3 counts on.
+const CHROMA_DC_ESCAPE_CODE_BASE: [u32; 4] = [7, 17, 27, 29];
+
+// The magnitude with the sign of its code: odd positive, even negative.
+fn level_of(code: u32, magnitude: u32) -> i32
+    requires { ⌜ magnitude < 2 ^ 31 ⌝ }
+    ensures { λ r. ⌜ r ≡ levelOf code magnitude ⌝ }
+{
+    let m = magnitude as i32;
+    if code % 2 == 1 { m } else { -m }
+}
+
+// (code + 1) / 2, of any code.
+fn half_of(code: u32) -> u32
+    ensures { λ r. ⌜ r ≡ half code ⌝ }
+{
+    code / 2 + code % 2
+}
+
+fn normal_level_run(code: u32) -> LevelRun
+    ensures { λ r. ⌜ r ≡ LevelRun.Pair (level ResidualBook.NormalScan code) (run ResidualBook.NormalScan code) ⌝ }
+{
+    let half = half_of(code);
+    if code < NORMAL_SCAN_ESCAPE {
+        let i = half as usize;
+        return LevelRun::Pair(
+            level_of(code, NORMAL_SCAN_MAGNITUDES[i]),
+            NORMAL_SCAN_RUNS[i],
+        );
+    }
+    let run = half % 16;
+    let magnitude = (code - NORMAL_SCAN_ESCAPE) / 32 + NORMAL_SCAN_ESCAPE_LEVEL_BASE[run as usize];
+    LevelRun::Pair(level_of(code, magnitude), run)
+}
+
+fn chroma_dc_level_run(code: u32) -> LevelRun
+    ensures { λ r. ⌜ r ≡ LevelRun.Pair (level ResidualBook.ChromaDc code) (run ResidualBook.ChromaDc code) ⌝ }
+{
+    let half = half_of(code);
+    if code < CHROMA_DC_ESCAPE {
+        let i = half as usize;
+        return LevelRun::Pair(level_of(code, CHROMA_DC_MAGNITUDES[i]), CHROMA_DC_RUNS[i]);
+    }
+    let run = half % 4;
+    let magnitude = (code - CHROMA_DC_ESCAPE_CODE_BASE[run as usize]) / 8 + 3;
+    LevelRun::Pair(level_of(code, magnitude), run)
+}
+
+pub fn resolve_level_run(book: ResidualBook, code: u32) -> LevelRun
+    ensures { λ r. ⌜ r ≡ resolve book code ⌝ }
+{
+    if code == 0 {
+        return LevelRun::End;
+    }
+    match book {
+        ResidualBook::NormalScan => normal_level_run(code),
+        ResidualBook::ChromaDc => chroma_dc_level_run(code),
+    }
+}
+
+// The next code of a list.
+pub enum Step {
+    // a level, its run and the place after the code
+    Level(i32, u32, usize),
+    // the end of the list: the place after the code
+    End(usize),
+    Refused(Refusal),
+}
+
+pub enum ListAnswer {
+    // the place after the list
+    End(usize),
+    Refused(Refusal),
+}
+
+fn next_level(bits: &[u8], at: usize, book: ResidualBook) -> Step
+    requires { ⌜ length (now bits) < 2 ^ 61 ⌝ }
+    ensures { λ r. ⌜ r ≡ stepAnswer at (levelRun book (drop at (bitList (now (bits .entry))))) ⌝ }
+{
+    match read_universal_code(bits, at) {
+        CodeAnswer::Code(code, next) => match resolve_level_run(book, code) {
+            LevelRun::Pair(level, run) => Step::Level(level, run, next),
+            LevelRun::End => Step::End(next),
+        },
+        CodeAnswer::Refused(r) => Step::Refused(r),
+    }
+}
+
+// The first `count` levels of a block, stored from a place on.
+fn store_levels(out: &mut [i32], base: usize, levels: &[i32], count: usize)
+    requires { ⌜ (count ≤ length (now levels)) × (base + count ≤ length (now out)) ⌝ }
+    ensures { λ _. ⌜ now (out .exit) ≡ sets (now (out .entry)) base (take count (now (levels .entry))) ⌝ }
+{
+    let mut i = 0;
+    while i < count {
+        out[base + i] = levels[i];
+        i += 1;
+    }
+}
+
+// One list from a start position on. Its levels are stored by raster place once its end is read; a refused list stores nothing.
+fn decode_list(
+    out: &mut [i32],
+    base: usize,
+    bits: &[u8],
+    at: usize,
+    book: ResidualBook,
+    start: u32,
+) -> ListAnswer
+    requires { ⌜ (base + positions book ≤ length (now out)) × (start ≤ positions book) × (length (now bits) < 2 ^ 61) ⌝ }
+    ensures { λ r. ⌜ Decoded at (block book start (drop at (bitList (now (bits .entry))))) (now (out .entry)) base r (now (out .exit)) ⌝ }
+{
+    let count = positions_of(book);
+    let mut levels = [0i32; 16];
+    let mut position = start;
+    let mut p = at;
+    loop {
+        match next_level(bits, p, book) {
+            Step::Level(level, run, next) => {
+                let reached = position + run;
+                if count <= reached {
+                    return ListAnswer::Refused(Refusal::LevelPosition(reached));
+                }
+                let place = place_of(book, reached);
+                levels[place] = level;
+                position = reached + 1;
+                p = next;
+            }
+            Step::End(next) => {
+                store_levels(out, base, &levels, count as usize);
+                return ListAnswer::End(next);
+            }
+            Step::Refused(r) => return ListAnswer::Refused(r),
+        }
+    }
+}
+
+// A 4×4 block's list, from position 0, or from 1 where only the AC levels are sent.
+pub fn decode_residual_4x4_normal(
+    out: &mut [i32],
+    base: usize,
+    bits: &[u8],
+    at: usize,
+    start: u32,
+) -> ListAnswer
+    requires { ⌜ (base + 16 ≤ length (now out)) × (start ≤ 1) × (length (now bits) < 2 ^ 61) ⌝ }
+    ensures { λ r. ⌜ Decoded at (block ResidualBook.NormalScan start (drop at (bitList (now (bits .entry))))) (now (out .entry)) base r (now (out .exit)) ⌝ }
+{
+    decode_list(out, base, bits, at, ResidualBook::NormalScan, start)
+}
+
+// The four chroma DC levels of a plane.
+pub fn decode_chroma_dc_2x2(out: &mut [i32], base: usize, bits: &[u8], at: usize) -> ListAnswer
+    requires { ⌜ (base + 4 ≤ length (now out)) × (length (now bits) < 2 ^ 61) ⌝ }
+    ensures { λ r. ⌜ Decoded at (block ResidualBook.ChromaDc 0 (drop at (bitList (now (bits .entry))))) (now (out .entry)) base r (now (out .exit)) ⌝ }
+{
+    decode_list(out, base, bits, at, ResidualBook::ChromaDc, 0)
+}

@@ -1,0 +1,34 @@
+// Scan positions and raster places.
+ghost use mathlib.Core.Path.{_≡_};
+ghost use Prim.Native.Nat.{_<_};
+ghost use lib.ListN.{getD};
+ghost use Rattle.residual.specs.Book.{positions};
+ghost use Rattle.residual.specs.Scan.{scan};
+use crate::svq3_coeff::ResidualBook;
+
+const NORMAL_ZIGZAG_4X4_SCAN: [usize; 16] = [0, 1, 4, 8, 5, 2, 3, 6, 9, 12, 13, 10, 7, 11, 14, 15];
+
+const FULL_4X4_LEN: u32 = 16;
+
+const CHROMA_DC_2X2_LEN: u32 = 4;
+
+// The number of positions of a list.
+pub fn positions_of(book: ResidualBook) -> u32
+    ensures { λ r. ⌜ r ≡ positions book ⌝ }
+{
+    match book {
+        ResidualBook::NormalScan => FULL_4X4_LEN,
+        ResidualBook::ChromaDc => CHROMA_DC_2X2_LEN,
+    }
+}
+
+// The raster place of a position. A chroma DC position is its quadrant by rows.
+pub fn place_of(book: ResidualBook, position: u32) -> usize
+    requires { ⌜ position < positions book ⌝ }
+    ensures { λ r. ⌜ r ≡ getD (scan book) position 0 ⌝ }
+{
+    match book {
+        ResidualBook::NormalScan => NORMAL_ZIGZAG_4X4_SCAN[position as usize],
+        ResidualBook::ChromaDc => position as usize,
+    }
+}
