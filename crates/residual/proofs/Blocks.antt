@@ -1,19 +1,18 @@
 -- A block by raster place is a format: its levels determine the bits read. A block of AC levels has 0 at place 0.
 -- Assumes nothing.
-use mathlib.Core.Path.{_≡_, refl, sym, ap, subst, _∙_}
-use mathlib.Core.Bool.{Bool, true, false, cond}
-use mathlib.Core.List.{List, [], _∷_, _++_}
-use Prim.Native.Nat.{ℕ, zero, suc, _+_, _-_, _≤_, _<_}
+use mathlib.Core.Path.{_≡_, sym, ap, subst, _∙_}
+use mathlib.Core.List.{List, _∷_, _++_}
+use Prim.Native.Nat.{ℕ, _≤_}
 use native.Mathlib.Omega.{arith}
 use lib.Dec.{lit<}
 use lib.IntN.{ℤ, pos}
-use lib.ListN.{length, getD, take, drop, length-append, length-drop, length-replicate, take-append-drop}
+use lib.ListN.{getD, take, drop, length-append, length-drop, length-replicate, take-append-drop}
 use lib.Seq.{take-at, drop-at, drop-cons, getD-take}
 use Rattle.refusal.specs.Format.{Format}
 use Rattle.refusal.proofs.Formats.{renamed}
 use Rattle.residual.specs.Book.{positions}
 use Rattle.residual.specs.Scan.{scan, raster, unraster}
-use Rattle.residual.specs.Levels.{zeros, levels, levelBits, LevelsCoded, LevelsRange, block, blockBits, BlockRange}
+use Rattle.residual.specs.Levels.{zeros, levels, LevelsCoded, LevelsRange, block, blockBits, BlockRange}
 use Rattle.residual.specs.declared.svq3_coeff.ResidualBook.{ResidualBook}
 use Rattle.residual.specs.declared.svq3_coeff.ResidualBook.the-variants.{NormalScan}
 use Rattle.residual.proofs.Rasters.{length-raster, length-unraster, unraster-at, unraster-raster, raster-unraster}

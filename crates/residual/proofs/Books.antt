@@ -1,9 +1,8 @@
 -- Level and run determine the code: `codeOf` and `resolve` are each other's inverse, no level is 0, and the ranges of levels and runs.
 -- Below the escape each law is a test over the table; from the escape on it is arithmetic.
 -- Assumes nothing.
-use mathlib.Core.Path.{_≡_, refl, sym, ap, ap₂, subst, _∙_}
-use mathlib.Core.Bool.{Bool, true, false, cond, _&&_, _||_, not}
-use mathlib.Core.List.{List}
+use mathlib.Core.Path.{_≡_, refl, ap, subst, _∙_}
+use mathlib.Core.Bool.{Bool, true, false, cond, _&&_}
 use Prim.Native.Nat.{ℕ, zero, suc, _+_, _-_, _*_, _/_, _%_, _^_, _≤_, _<_}
 use native.Mathlib.Omega.{arith}
 use borrow.Author.Tests.{lt-ltb, le-ltb, ltb-true, ltb-false, eq-eqb, ne-eqb, eqb-true, eqb-false}
@@ -13,8 +12,7 @@ use lib.ListN.{getD}
 use Rattle.residual.specs.Book.{half, magnitudes, runs, escape, positions, least, chromaBase, escapeMagnitude, magnitude, run, levelOf, level, resolve, entryOf, escapeCode, oddCode, codeOfLevel, codeOf}
 use Rattle.residual.specs.declared.svq3_coeff.ResidualBook.{ResidualBook}
 use Rattle.residual.specs.declared.svq3_coeff.ResidualBook.the-variants.{NormalScan, ChromaDc}
-use Rattle.residual.specs.declared.svq3_coeff.LevelRun.{LevelRun}
-use Rattle.residual.specs.declared.svq3_coeff.LevelRun.the-variants.{End, Pair}
+use Rattle.residual.specs.declared.svq3_coeff.LevelRun.the-variants.{Pair}
 use Rattle.residual.proofs.Table.{both-left, both-right, every, at}
 use Rattle.residual.proofs.Entries.{by-entries, by-runs, least-range, base-range}
 

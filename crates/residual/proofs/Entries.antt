@@ -1,12 +1,12 @@
 -- Tests over the entries and the runs of both books, and what the functions over a book compute.
 -- Assumes nothing.
-use mathlib.Core.Path.{_≡_, refl, sym, ap, subst, _∙_}
+use mathlib.Core.Path.{_≡_, refl}
 use mathlib.Core.Bool.{Bool, _&&_}
 use Prim.Native.Nat.{ℕ, zero, suc, _%_, _^_, _≤_, _<_}
 use native.Mathlib.Omega.{arith}
 use borrow.Author.Tests.{lt-ltb, le-ltb, eq-eqb, ne-eqb}
-use lib.Dec.{T, lit<, ltb, leb, ltb→lt, leb→le}
-use lib.IntN.{ℤ, pos, negℤ, _-ℤ_}
+use lib.Dec.{T, ltb, leb, ltb→lt, leb→le}
+use lib.IntN.{ℤ, pos, _-ℤ_}
 use lib.ListN.{getD}
 use lib.Signed.{mag}
 use mir.Syntax.{w32}

@@ -1,10 +1,9 @@
 -- Worked examples, computed: document 01's, and a list at its edges.
 -- Assumes nothing.
 use mathlib.Core.Path.{_≡_, refl}
-use mathlib.Core.Bool.{Bool, true, false}
-use mathlib.Core.List.{List, [], _∷_, _++_}
-use Prim.Native.Nat.{ℕ}
-use lib.IntN.{ℤ, pos, negsuc}
+use mathlib.Core.Bool.{true, false}
+use mathlib.Core.List.{[], _∷_, _++_}
+use lib.IntN.{pos, negsuc}
 use Rattle.refusal.specs.Got.{got, refused}
 use Rattle.refusal.specs.declared.Refusal.the-variants.{Truncated, InvalidFrameCode, LevelPosition}
 use Rattle.bits.specs.Code.{code, codeFrom, codeBits, marked, placesIn}

@@ -1,17 +1,17 @@
 -- The levels from a position on, by what the next code says.
 -- Assumes nothing.
-use mathlib.Core.Path.{_≡_, refl, sym, ap, _∙_}
+use mathlib.Core.Path.{_≡_}
 use mathlib.Core.Bool.{Bool}
-use mathlib.Core.List.{List, [], _∷_, _++_}
+use mathlib.Core.List.{List, _∷_, _++_}
 use Prim.Native.Nat.{ℕ, zero, suc, _+_, _-_, _≤_, _<_}
 use borrow.Author.Tests.{lt-ltb, le-ltb}
 use lib.IntN.{ℤ}
 use lib.ListN.{drop}
-use Rattle.refusal.specs.Got.{Got, got, refused, after, andThen, mapGot}
+use Rattle.refusal.specs.Got.{got, refused, after, mapGot}
 use Rattle.refusal.specs.declared.Refusal.{Refusal}
 use Rattle.refusal.specs.declared.Refusal.the-variants.{LevelPosition}
 use Rattle.residual.specs.Book.{positions}
-use Rattle.residual.specs.Levels.{zeros, levelRun, standing, levelsFrom}
+use Rattle.residual.specs.Levels.{zeros, levelRun, levelsFrom}
 use Rattle.residual.specs.declared.svq3_coeff.ResidualBook.{ResidualBook}
 use Rattle.residual.specs.declared.svq3_coeff.LevelRun.the-variants.{End, Pair}
 

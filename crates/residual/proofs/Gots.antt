@@ -1,6 +1,6 @@
 -- Laws of what readers answer: elements taken before, and the value under another name.
 -- Assumes nothing.
-use mathlib.Core.Path.{_≡_, refl, sym, ap, _∙_}
+use mathlib.Core.Path.{_≡_, refl, sym, ap}
 use Prim.Native.Nat.{ℕ, _+_}
 use native.Mathlib.Nat.{zero-add, add-assoc}
 use Rattle.refusal.specs.Got.{Got, got, refused, after, mapGot}

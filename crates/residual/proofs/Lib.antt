@@ -12,4 +12,5 @@ pub mod Unique
 pub mod Blocks
 pub mod Reading
 pub mod Ranges
+pub mod Answers
 pub mod Examples

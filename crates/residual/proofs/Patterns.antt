@@ -1,48 +1,46 @@
 -- The pattern: the table is one-to-one on 0 .. 47, so a pattern has one code; what the functions answer.
 -- Assumes nothing.
-use mathlib.Core.Path.{_≡_, refl, sym, ap, _∙_}
+use mathlib.Core.Path.{_≡_, refl}
 use mathlib.Core.Bool.{Bool, true, false, cond, _&&_}
 use mathlib.Core.List.{List}
-use Prim.Native.Nat.{ℕ, _+_, _^_, _-_, _<_}
+use Prim.Native.Nat.{ℕ, _<_}
 use native.Mathlib.Omega.{arith}
-use borrow.Author.Tests.{lt-ltb, le-ltb, ltb-true, ltb-false}
-use lib.Dec.{T, eqb, ltb, eqb→eq, ltb→lt}
+use borrow.Author.Tests.{lt-ltb, le-ltb, ltb-true}
+use lib.Dec.{eqb, ltb, eqb→eq, ltb→lt}
 use lib.ListN.{getD}
-use Rattle.refusal.specs.Got.{Got, got, refused, mapGot}
 use Rattle.refusal.specs.Format.{Format}
 use Rattle.refusal.specs.declared.Refusal.{Refusal}
 use Rattle.refusal.specs.declared.Refusal.the-variants.{InvalidFrameCode}
 use Rattle.refusal.proofs.Formats.{renamed}
-use Rattle.bits.specs.Code.{code, CodeRange, codeAnswer}
+use Rattle.bits.specs.Code.{code, codeAnswer}
 use Rattle.bits.specs.declared.svq3.CodeAnswer.the-variants as read
 use Rattle.bits.proofs.Unique.{code-format}
 use Rattle.bits.proofs.Answers.{Answered, code-answered, code-refused}
 use Rattle.residual.specs.Lists.{placeOf}
-use Rattle.residual.specs.Pattern.{patterns, patternEntry, keep, pattern, patternBits, PatternRange, patternAnswer}
-use Rattle.residual.specs.declared.svq3_cbp.CbpEntry.{CbpEntry}
+use Rattle.residual.specs.Pattern.{patterns, patternCode, patternEntry, pattern, patternBits, PatternRange, patternAnswer}
 use Rattle.residual.specs.declared.svq3_cbp.CbpEntry.the-variants.{Entry, Missing}
 use Rattle.residual.specs.declared.svq3_cbp.CbpAnswer.the-variants.{Pattern, Refused}
-use Rattle.residual.proofs.Table.{both-left, both-right, every, at}
+use Rattle.residual.proofs.Table.{both-left, both-right, at}
 use Rattle.residual.proofs.Kept.{kept}
 
 -- ---- the table
 rightCode : ℕ → Bool
-rightCode k = eqb (placeOf (getD patterns k 0) patterns) k && ltb (getD patterns k 0) 48
+rightCode k = eqb (patternCode (getD patterns k 0)) k && ltb (getD patterns k 0) 48
 
 rightPattern : ℕ → Bool
-rightPattern v = eqb (getD patterns (placeOf v patterns) 0) v && ltb (placeOf v patterns) 48
+rightPattern v = eqb (getD patterns (patternCode v) 0) v && ltb (patternCode v) 48
 
-pub code-back : (k : ℕ) → k < 48 → (placeOf (getD patterns k 0) patterns ≡ k) × PatternRange (getD patterns k 0)
+pub code-back : (k : ℕ) → k < 48 → (patternCode (getD patterns k 0) ≡ k) × PatternRange (getD patterns k 0)
 unfolding rightCode patterns placeOf
 code-back k h =
     let v = getD patterns k 0 in
     let t = at rightCode 48 tt k h in
-    (eqb→eq (placeOf v patterns) k (both-left (eqb (placeOf v patterns) k) (ltb v 48) t), ltb→lt v 48 (both-right (eqb (placeOf v patterns) k) (ltb v 48) t))
+    (eqb→eq (patternCode v) k (both-left (eqb (patternCode v) k) (ltb v 48) t), ltb→lt v 48 (both-right (eqb (patternCode v) k) (ltb v 48) t))
 
-pub pattern-back : (v : ℕ) → PatternRange v → (getD patterns (placeOf v patterns) 0 ≡ v) × (placeOf v patterns < 48)
+pub pattern-back : (v : ℕ) → PatternRange v → (getD patterns (patternCode v) 0 ≡ v) × (patternCode v < 48)
 unfolding rightPattern patterns placeOf
 pattern-back v h =
-    let k = placeOf v patterns in
+    let k = patternCode v in
     let t = at rightPattern 48 tt v h in
     (eqb→eq (getD patterns k 0) v (both-left (eqb (getD patterns k 0) v) (ltb k 48) t), ltb→lt k 48 (both-right (eqb (getD patterns k 0) v) (ltb k 48) t))
 
@@ -50,9 +48,9 @@ pattern-back v h =
 pub pattern-format : Format pattern patternBits PatternRange
 unfolding pattern patternBits
 pattern-format =
-    renamed (kept code-format (λ k. ltb k 48) InvalidFrameCode) (λ k. getD patterns k 0) (λ v. placeOf v patterns) PatternRange
+    renamed (kept code-format (λ k. ltb k 48) InvalidFrameCode) (λ k. getD patterns k 0) (λ v. patternCode v) PatternRange
     (λ k h. code-back k (ltb-true k 48 (h .1)) .1)
-    (λ v h. let b = pattern-back v h .1 in (omega arith, lt-ltb (placeOf v patterns) 48 b))
+    (λ v h. let b = pattern-back v h .1 in (omega arith, lt-ltb (patternCode v) 48 b))
     (λ v h. pattern-back v h .0)
     (λ k h. code-back k (ltb-true k 48 (h .1)) .0)
 

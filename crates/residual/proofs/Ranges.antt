@@ -3,9 +3,9 @@
 use mathlib.Core.Path.{_≡_, refl, sym, ap, subst, _∙_}
 use mathlib.Core.Bool.{Bool, true, false, cond}
 use mathlib.Core.List.{List, [], _∷_, _++_}
-use Prim.Native.Nat.{ℕ, zero, suc, _+_, _-_, _*_, _≤_, _<_}
+use Prim.Native.Nat.{ℕ, zero, suc, _+_, _*_, _≤_, _<_}
 use native.Mathlib.Omega.{arith}
-use borrow.Author.Tests.{ltb-true, ltb-false, eqb-true, eqb-false, lt-ltb}
+use borrow.Author.Tests.{ltb-true, ltb-false, eqb-true, eqb-false}
 use lib.Dec.{eqb, ltb}
 use lib.IntN.{ℤ, pos, natAbs}
 use lib.ListN.{length, getD, drop, length-drop, take-append-drop}
@@ -16,9 +16,8 @@ use Rattle.bits.specs.Code.{bitValue, codeFrom, code, CodeRange}
 use Rattle.residual.specs.Lists.{placeOf}
 use Rattle.residual.specs.Book.{positions, level, run, resolve, codeOfLevel}
 use Rattle.residual.specs.Scan.{scan, raster, unraster}
-use Rattle.residual.specs.Levels.{zeros, levelRun, standing, levelsFrom, levels, isZero, LevelsCoded, block, BlockRange}
+use Rattle.residual.specs.Levels.{zeros, levelRun, standing, levelsFrom, levels, isZero, LevelsCoded, block}
 use Rattle.residual.specs.declared.svq3_coeff.ResidualBook.{ResidualBook}
-use Rattle.residual.specs.declared.svq3_coeff.ResidualBook.the-variants.{NormalScan}
 use Rattle.residual.specs.declared.svq3_coeff.LevelRun.{LevelRun}
 use Rattle.residual.specs.declared.svq3_coeff.LevelRun.the-variants.{End, Pair}
 use Rattle.residual.proofs.Books.{most, level-most, resolve-code}

@@ -1,14 +1,13 @@
 -- The state of the loop that reads a list: what is still to be read says what the whole list says. One law for each way out of a turn.
 -- Assumes nothing.
-use mathlib.Core.Path.{_≡_, refl, sym, ap, ap₂, subst, _∙_}
-use mathlib.Core.Bool.{Bool, true, false, cond}
+use mathlib.Core.Path.{_≡_, refl, sym, ap, ap₂, _∙_}
+use mathlib.Core.Bool.{Bool}
 use mathlib.Core.List.{List, [], _∷_, _++_, append-assoc}
 use Prim.Native.Nat.{ℕ, zero, suc, _+_, _-_, _≤_, _<_}
-use native.Mathlib.Nat.{zero-add, add-zero}
-use native.Mathlib.Numerals.{add-one}
+use native.Mathlib.Nat.{add-zero}
 use native.Mathlib.Omega.{arith}
 use lib.IntN.{ℤ, pos}
-use lib.ListN.{length, getD, take, drop, set, replicate, length-append, length-replicate, length-set, replicate-append-replicate}
+use lib.ListN.{length, getD, take, drop, set, length-append, length-replicate, length-set, replicate-append-replicate}
 use lib.Seq.{append-snoc, drop-drop, take-set-lt, set-at, sets}
 use Rattle.refusal.specs.Got.{Got, got, refused, after, mapGot}
 use Rattle.refusal.specs.declared.Refusal.{Refusal}
@@ -24,7 +23,6 @@ use Rattle.residual.specs.declared.svq3_coeff.LevelRun.{LevelRun}
 use Rattle.residual.specs.declared.svq3_coeff.LevelRun.the-variants.{Pair}
 use Rattle.residual.specs.declared.svq3_coeff.LevelRun.the-variants as said
 use Rattle.residual.specs.declared.svq3_coeff.Step.the-variants as step
-use Rattle.residual.specs.declared.svq3_coeff.ListAnswer.{ListAnswer}
 use Rattle.residual.specs.declared.svq3_coeff.ListAnswer.the-variants.{End, Refused}
 use Rattle.residual.proofs.Gots.{after-zero, after-after, map-after, map-map}
 use Rattle.residual.proofs.Froms.{from-refused, from-end, from-past, from-level}

@@ -1,14 +1,13 @@
 -- The next code of a list: what the function answers, and the format of what a code says.
 -- Assumes nothing.
-use mathlib.Core.Path.{_≡_, refl, sym, ap, subst, _∙_}
+use mathlib.Core.Path.{_≡_, refl, sym, subst}
 use mathlib.Core.Bool.{Bool, true, false, cond}
 use mathlib.Core.List.{List}
-use Prim.Native.Nat.{ℕ, zero, suc, _+_, _-_, _^_, _<_}
+use Prim.Native.Nat.{ℕ, _<_}
 use native.Mathlib.Omega.{arith}
-use borrow.Author.Tests.{eqb-true, eqb-false}
+use borrow.Author.Tests.{eqb-false}
 use lib.Dec.{eqb}
 use lib.IntN.{ℤ}
-use Rattle.refusal.specs.Got.{Got, got, refused, mapGot}
 use Rattle.refusal.specs.Format.{Format}
 use Rattle.refusal.specs.declared.Refusal.{Refusal}
 use Rattle.refusal.proofs.Formats.{renamed}
@@ -16,7 +15,7 @@ use Rattle.bits.specs.Code.{code, codeBits, CodeRange, codeAnswer}
 use Rattle.bits.specs.declared.svq3.CodeAnswer.the-variants as read
 use Rattle.bits.proofs.Unique.{code-format}
 use Rattle.bits.proofs.Answers.{Answered, code-answered, code-refused}
-use Rattle.residual.specs.Book.{positions, run, level, resolve, codeOfLevel, codeOf, InBook}
+use Rattle.residual.specs.Book.{run, level, resolve, codeOf, InBook}
 use Rattle.residual.specs.Levels.{levelRun, stepAnswer}
 use Rattle.residual.specs.declared.svq3_coeff.ResidualBook.{ResidualBook}
 use Rattle.residual.specs.declared.svq3_coeff.LevelRun.{LevelRun}

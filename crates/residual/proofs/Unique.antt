@@ -7,13 +7,13 @@ use Prim.Native.Nat.{ℕ, zero, suc, _+_, _-_, _≤_, _<_}
 use native.Mathlib.Nat.{zero-add, add-zero}
 use native.Mathlib.Numerals.{add-one}
 use native.Mathlib.Omega.{arith}
-use borrow.Author.Tests.{lt-ltb, ltb-true, ltb-false, eqb-true, eqb-false, eq-eqb, ne-eqb}
-use lib.Dec.{eqb, ltb}
+use borrow.Author.Tests.{ltb-true, eqb-true, eqb-false, ne-eqb}
+use lib.Dec.{ltb}
 use lib.IntN.{ℤ, pos, negsuc, natAbs}
-use lib.ListN.{length, drop, replicate, length-append, length-replicate}
+use lib.ListN.{length, drop, length-append, length-replicate}
 use lib.Seq.{drop-at}
 use Rattle.refusal.specs.Got.{Got, got, refused, after, andThen, mapGot}
-use Rattle.refusal.specs.Format.{Starts, Came, Format}
+use Rattle.refusal.specs.Format.{Came, Format}
 use Rattle.refusal.specs.declared.Refusal.the-variants.{LevelPosition}
 use Rattle.refusal.proofs.Formats.{got-value, got-count, never}
 use Rattle.bits.specs.Code.{codeBits, CodeRange}

@@ -1,8 +1,8 @@
 -- The two (level, run) books: what each code says, and the code that says a level and a run.
 -- Assumes nothing.
-use mathlib.Core.Bool.{Bool, cond, _&&_}
+use mathlib.Core.Bool.{cond, _&&_}
 use mathlib.Core.List.{List, [], _∷_}
-use Prim.Native.Nat.{ℕ, zero, suc, _+_, _-_, _*_, _/_, _%_, _<_}
+use Prim.Native.Nat.{ℕ, suc, _+_, _-_, _*_, _/_, _%_, _<_}
 use lib.Dec.{eqb, ltb}
 use lib.IntN.{ℤ, pos, negsuc, negℤ, natAbs}
 use lib.ListN.{getD}
@@ -36,11 +36,12 @@ abbrev pub positions : ResidualBook → ℕ
 positions NormalScan = 16
 positions ChromaDc = 4
 
--- by run: the least magnitude that an escape says, and the code base of the chroma DC book
+-- by run: the least magnitude that an escape says
 unfoldable pub least : ResidualBook → List ℕ
 least NormalScan = 5 ∷ 3 ∷ 3 ∷ 2 ∷ 2 ∷ 2 ∷ 2 ∷ 2 ∷ 2 ∷ 2 ∷ 1 ∷ 1 ∷ 1 ∷ 1 ∷ 1 ∷ 1 ∷ []
 least ChromaDc = 5 ∷ 4 ∷ 3 ∷ 3 ∷ []
 
+-- by run: the code from which an escape of the chroma DC book counts magnitude 3 on
 unfoldable pub chromaBase : List ℕ
 chromaBase = 7 ∷ 17 ∷ 27 ∷ 29 ∷ []
 
@@ -49,13 +50,14 @@ unfoldable pub escapeMagnitude : ResidualBook → ℕ → ℕ → ℕ
 escapeMagnitude NormalScan r k = (k - 31) / 32 + getD (least NormalScan) r 0
 escapeMagnitude ChromaDc r k = (k - getD chromaBase r 0) / 8 + 3
 
+-- the run and the magnitude of a code: an entry's below the escape, an escape's from it on
 unfoldable pub run : ResidualBook → ℕ → ℕ
 run book k = cond (ltb k (escape book)) (getD (runs book) (half k) 0) (half k % positions book)
 
 unfoldable pub magnitude : ResidualBook → ℕ → ℕ
 magnitude book k = cond (ltb k (escape book)) (getD (magnitudes book) (half k) 0) (escapeMagnitude book (half k % positions book) k)
 
--- odd codes are positive
+-- a magnitude with the sign of its code: odd codes are positive
 unfoldable pub levelOf : ℕ → ℕ → ℤ
 levelOf k m = cond (odd k) (pos m) (negℤ (pos m))
 

@@ -11,7 +11,7 @@ use lib.Seq.{sets}
 use Rattle.refusal.specs.Got.{Got, got, refused, andThen, mapGot}
 use Rattle.refusal.specs.declared.Refusal.the-variants.{LevelPosition}
 use Rattle.bits.specs.Code.{code, codeBits, CodeRange}
-use Rattle.residual.specs.Book.{positions, resolve, codeOf, codeOfLevel}
+use Rattle.residual.specs.Book.{positions, resolve, codeOfLevel}
 use Rattle.residual.specs.Scan.{raster, unraster}
 use Rattle.residual.specs.declared.svq3_coeff.ResidualBook.{ResidualBook}
 use Rattle.residual.specs.declared.svq3_coeff.LevelRun.{LevelRun}
@@ -28,7 +28,7 @@ zeros n = replicate n (pos 0)
 unfoldable pub levelRun : ResidualBook → List Bool → Got LevelRun
 levelRun book s = mapGot (resolve book) (code s)
 
--- at a position of `count`: the end leaves the positions from it on 0; a level stands `run` positions on, which must be one of the list's, and the next code goes on behind it
+-- what a code does at a position of `count`: the end leaves 0 from there on; a level stands `run` positions on, where the list must still have one, and `next` reads on behind it
 abbrev pub standing : ℕ → ℕ → LevelRun → (ℕ → Got (List ℤ)) → Got (List ℤ)
 standing count position said.End next = got (zeros (count - position)) 0
 standing count position (said.Pair level run) next =
@@ -36,7 +36,7 @@ standing count position (said.Pair level run) next =
     (mapGot (λ ls. zeros run ++ level ∷ ls) (next (position + run + 1)))
     (refused (LevelPosition (position + run)))
 
--- the levels from a position on. Each level takes a position, so as many turns as the list has positions are enough, and the last can only read the end
+-- the levels from a position on. Each level takes a position, so as many turns as the list has positions leave none for the last, which needs the end code
 unfoldable pub levelsFrom : ResidualBook → ℕ → ℕ → List Bool → Got (List ℤ)
 levelsFrom book zero position s = andThen (levelRun book s) s (λ found rest. standing (positions book) position found (λ p. refused (LevelPosition p)))
 levelsFrom book (suc turns) position s = andThen (levelRun book s) s (λ found rest. standing (positions book) position found (λ p. levelsFrom book turns p rest))

@@ -22,6 +22,7 @@ patterns =
     0 ∷ 16 ∷ 1 ∷ 2 ∷ 4 ∷ 8 ∷ 32 ∷ 3 ∷ 5 ∷ 10 ∷ 12 ∷ 15 ∷ 47 ∷ 7 ∷ 11 ∷ 13 ∷ 14 ∷ 6 ∷ 9 ∷ 31 ∷ 35 ∷ 37 ∷ 42 ∷ 44 ∷
     33 ∷ 34 ∷ 36 ∷ 40 ∷ 39 ∷ 43 ∷ 45 ∷ 46 ∷ 17 ∷ 18 ∷ 20 ∷ 24 ∷ 19 ∷ 21 ∷ 26 ∷ 28 ∷ 23 ∷ 27 ∷ 29 ∷ 30 ∷ 22 ∷ 25 ∷ 38 ∷ 41 ∷ []
 
+-- the table at any code
 unfoldable pub patternEntry : ℕ → CbpEntry
 patternEntry k = cond (ltb k 48) (Entry (getD patterns k 0)) Missing
 
@@ -34,8 +35,12 @@ keep test why (refused r) = refused r
 unfoldable pub pattern : List Bool → Got ℕ
 pattern s = mapGot (λ k. getD patterns k 0) (keep (λ k. ltb k 48) InvalidFrameCode (code s))
 
+-- the code whose entry a pattern is
+abbrev pub patternCode : ℕ → ℕ
+patternCode v = placeOf v patterns
+
 unfoldable pub patternBits : ℕ → List Bool
-patternBits v = codeBits (placeOf v patterns)
+patternBits v = codeBits (patternCode v)
 
 abbrev pub PatternRange : ℕ → Type 0
 PatternRange v = v < 48

@@ -3,7 +3,7 @@ ghost use mathlib.Core.Path.{_≡_};
 ghost use Prim.Native.Nat.{_<_, _^_};
 ghost use lib.ListN.{length, drop};
 ghost use Rattle.bits.specs.Bits.{bitList};
-ghost use Rattle.residual.specs.Pattern.{patternEntry, pattern, patternAnswer, lumaOf, classOf, quadrantCoded};
+ghost use Rattle.residual.specs.Pattern.{patternEntry, pattern, patternAnswer, classOf, quadrantCoded};
 use bits::svq3::CodeAnswer;
 use bits::svq3::read_universal_code;
 use refusal::Refusal;

@@ -1,7 +1,5 @@
 -- `residual::svq3_coeff::chroma_dc_level_run`: below the escape by the tables, from it on by the escape's formula.
-use native.Mathlib.Omega.{arith}
 use borrow.Author.Needs.{needs}
-use Prim.Native.Nat.{_%_}
 use Rattle.residual.specs.Book.{magnitudes, runs, escapeMagnitude, chromaBase}
 use Rattle.residual.specs.declared.svq3_coeff.ResidualBook.the-variants.{ChromaDc}
 use Rattle.residual.proofs.Entries.{base-range, entry-fits, entry-said, escape-said}

@@ -7,7 +7,7 @@ use lib.IntN.{pos}
 use lib.ListN.{length, take, set, getD, length-set}
 use mir.Syntax.{w32}
 use mir.Val.{toZ, ofZ}
-use lib.Seq.{sets, length-sets}
+use lib.Seq.{sets}
 use Rattle.residual.proofs.Stores.{stored-more}
 use Rattle.residual.proofs.svq3_coeff.store_levels.Statement.{statement}
 use Rattle.residual.proofs.svq3_coeff.store_levels.Tie as tie
