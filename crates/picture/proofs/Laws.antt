@@ -113,7 +113,7 @@ module _ {A : Type 0} where
       ext-getD d l′ (eachAt f l) (e ∙ sym (each-length f l)) (λ i lt. h i (rw e at lt) ∙ sym (each-at f l i d (rw e at lt)))
 
 -- ---- a test on a rectangle, both ways
-both-true : (a b : Bool) → (a && b) ≡ true → (a ≡ true) × (b ≡ true)
+pub both-true : (a b : Bool) → (a && b) ≡ true → (a ≡ true) × (b ≡ true)
 both-true true b e = (refl, e)
 both-true false b e = absurd (false≢true e)
 
@@ -171,6 +171,20 @@ module _ {A : Type 0} where
   pub painted-same : {s x y w h : ℕ} (v : ℕ → ℕ → A) (l : List A) (r c : ℕ) (d : A) → Inside s x y w h (length l) → r < h → c < w → getD (painted s x y w h v l) ((y + r) * s + x + c) d ≡ v r c
   painted-same {s} {x} {y} {w} {h} v l r c d f lr lc =
       ap (λ (m : List A). getD m ((y + r) * s + x + c) d) (sym (rows-painted d l v f)) ∙ rows-same l s x y v w h r c d (f .across) (f .down) lr lc
+
+  each-values : (f g : ℕ → A → A) (l : List A) → ((i : ℕ) (a : A) → f i a ≡ g i a) → eachAt f l ≡ eachAt g l
+  unfolding eachAt
+  each-values f g [] e = refl
+  each-values f g (a ∷ l) e = λ j. e 0 a j ∷ each-values (λ i. f (suc i)) (λ i. g (suc i)) l (λ i. e (suc i)) j
+
+  -- only the values of the rectangle count
+  pub painted-values : (s x y w h : ℕ) (v v′ : ℕ → ℕ → A) (l : List A) → ((r c : ℕ) → r < h → c < w → v r c ≡ v′ r c) → painted s x y w h v l ≡ painted s x y w h v′ l
+  unfolding painted
+  painted-values s x y w h v v′ l e = each-values _ _ l (λ i a. go i a (inside s x y w h i) refl)
+    where
+      go : (i : ℕ) (a : A) (t : Bool) → inside s x y w h i ≡ t → cond t (v (i / s - y) (i % s - x)) a ≡ cond t (v′ (i / s - y) (i % s - x)) a
+      go i a true q = let p = place s x y w h i q in e (i / s - y) (i % s - x) (p .0) (p .1)
+      go i a false q = refl
 
   each-each : (f g : ℕ → A → A) (l : List A) → ((i : ℕ) (a : A) → f i (g i a) ≡ g i (f i a)) → eachAt f (eachAt g l) ≡ eachAt g (eachAt f l)
   unfolding eachAt

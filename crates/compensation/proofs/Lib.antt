@@ -1,0 +1,7 @@
+-- The laws of this crate.
+pub mod Mixes
+pub mod MixRows
+pub mod Taps
+pub mod Sides
+pub mod Between
+pub mod Examples

@@ -1,0 +1,58 @@
+-- What the tests on sides and lengths tell.
+-- Assumes nothing.
+use mathlib.Core.Path.{_≡_}
+use mathlib.Core.Bool.{Bool, true, _&&_}
+use Prim.Native.Nat.{ℕ, _+_, _-_, _*_, _≤_, _<_}
+use native.Mathlib.Nat.{mul-comm, mul-le-mul}
+use native.Mathlib.Omega.{arith}
+use lib.Dec.{leb, eqb}
+use borrow.Author.Tests.{leb-true, eqb-true}
+use Rattle.picture.specs.Painted.{Inside}
+use Rattle.picture.proofs.Laws.{both-true}
+use Rattle.compensation.specs.Block.{Whole, Span, sidesFit}
+
+pub four-true : (a b c d : Bool) → (a && b && c && d) ≡ true → (a ≡ true) × (b ≡ true) × (c ≡ true) × (d ≡ true)
+four-true a b c d e =
+    let p = both-true (a && b && c) d e in
+    let q = both-true (a && b) c (p .0) in
+    let s = both-true a b (q .0) in
+    (s .0, s .1, q .1, p .1)
+
+module _ (w h size : ℕ) where
+  pub plane-whole : sidesFit 65536 w h size ≡ true → Whole w h size
+  unfolding sidesFit
+  plane-whole e =
+      let p = both-true (leb 1 w && leb w 65536 && leb 1 h && leb h 65536) (eqb size (w * h)) e in
+      let s = four-true (leb 1 w) (leb w 65536) (leb 1 h) (leb h 65536) (p .0) in
+      record { columns = (leb-true 1 w (s .0), leb-true w 65536 (s .1)); lines = (leb-true 1 h (s .2), leb-true h 65536 (s .3)); all = eqb-true size (w * h) (p .1) }
+
+  pub spans : sidesFit 16 w h size ≡ true → Span w h × (size ≡ w * h)
+  unfolding sidesFit
+  spans e =
+      let p = both-true (leb 1 w && leb w 16 && leb 1 h && leb h 16) (eqb size (w * h)) e in
+      let s = four-true (leb 1 w) (leb w 16) (leb 1 h) (leb h 16) (p .0) in
+      (record { across = (leb-true 1 w (s .0), leb-true w 16 (s .1)); down = (leb-true 1 h (s .2), leb-true h 16 (s .3)) }, eqb-true size (w * h) (p .1))
+
+-- where a line starts in its plane
+pub line-small : {w h size line : ℕ} → Whole w h size → line < h → line * w ≤ 4294967296
+line-small {w} {h} {size} {line} p lt =
+    let small : line ≤ 65536 = omega arith in
+    omega (arith, mul-le-mul small (p .columns .1))
+
+-- the window of a block of at most 16 × 16 samples
+module _ {w h : ℕ} (s : Span w h) where
+  pub window-inside : Inside (w + 1) 0 0 (w + 1) (h + 1) 289
+  window-inside =
+      let high : 0 + (h + 1) ≤ 17 = omega arith in
+      let wide : w + 1 ≤ 17 = omega arith in
+      record { some = omega arith; across = omega arith; down = mul-le-mul high wide }
+
+  pub window-room : {e : ℕ} → e ≤ 1 → (h - 1 + e) * (w + 1) + w + e ≤ 289
+  window-room {e} k =
+      let high : h - 1 + e ≤ 16 = omega arith in
+      let wide : w + 1 ≤ 17 = omega arith in
+      omega (arith, mul-le-mul high wide)
+
+-- the output holds the block and nothing else
+pub block-inside : {w h size : ℕ} → Span w h → size ≡ w * h → Inside w 0 0 w h size
+block-inside {w} {h} s e = record { some = s .across .0; across = omega arith; down = rw e (omega (arith, mul-comm w h)) }

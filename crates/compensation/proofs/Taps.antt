@@ -1,0 +1,215 @@
+-- The taps of a block: counted from -17 they are those of the endless plane, and a block whose taps all lie inside reads them straight from the plane.
+-- Assumes nothing.
+use mathlib.Core.Path.{_≡_, refl, sym, ap, _∙_}
+use mathlib.Core.List.{List}
+use mathlib.Core.Logic.{_⊎_, inl, inr, ⊎-elim}
+use Prim.Native.Nat.{ℕ, zero, suc, _+_, _-_, _*_, _≤_, _<_, min}
+use native.Mathlib.Nat.{add-mul, mul-comm, zero-add, add-zero}
+use native.Mathlib.Omega.{arith}
+use borrow.Author.Tests.{ne-eqb}
+use lib.IntN.{ℤ, pos, negsuc, natAbs, _+ℤ_}
+use lib.Signed.{pos-natAbs}
+use lib.ListN.{length, getD, replicate}
+use Rattle.picture.specs.Painted.{Inside, painted}
+use Rattle.picture.specs.Rows.{row}
+use Rattle.picture.proofs.Laws.{more, row-same, painted-same}
+use Rattle.ints.specs.Z.{if_then_else_, clampZ, floorZ, modZ}
+use Rattle.ints.proofs.Fits.{sub-ind, clamp-ind}
+use Rattle.ints.proofs.Linear.{z-rules, add-z, abs-z, mag-z}
+use Rattle.ints.proofs.Laws.{clamp-low, floor-shift}
+use Rattle.compensation.specs.Sample.{nearest, tap, sampleAt, sixths, blockSample}
+use Rattle.compensation.specs.Formula.{along, formula}
+use Rattle.compensation.specs.Block.{Whole}
+use Rattle.compensation.specs.Kernel.{originOf, near, nearFrom, picked, lineAt, windowAt, windowBlock, fourAt, fourRow, fourBlock, extra}
+
+-- ---- places before and past a line of n
+module _ (n : ℕ) where
+  nearest-pos : (a : ℕ) → nearest n (pos a) ≡ min a (n - 1)
+  unfolding nearest
+  nearest-pos a =
+      clamp-ind (λ v. natAbs v ≡ min a (n - 1)) (pos 0) (pos (n - 1)) (pos a)
+      (λ e. omega (arith, z-rules))
+      (λ e f. omega (arith, z-rules))
+      (λ e f. omega (arith, z-rules))
+
+  nearest-neg : (a : ℕ) → nearest n (negsuc a) ≡ 0
+  unfolding nearest clampZ if_then_else_
+  nearest-neg a = refl
+
+  origin-pos : (a : ℕ) → originOf n (pos a) ≡ min a (n - 1) + 17
+  unfolding originOf
+  origin-pos a =
+      clamp-ind (λ v. natAbs (v +ℤ pos 17) ≡ min a (n - 1) + 17) (negsuc 16) (pos (n - 1)) (pos a)
+      (λ e. absurd (omega (arith, z-rules)))
+      (λ e f. omega (arith, z-rules))
+      (λ e f. omega (arith, z-rules))
+
+  origin-neg : (a : ℕ) → originOf n (negsuc a) ≡ 16 - a
+  unfolding originOf
+  origin-neg a =
+      clamp-ind (λ v. natAbs (v +ℤ pos 17) ≡ 16 - a) (negsuc 16) (pos (n - 1)) (negsuc a)
+      (λ e. omega (arith, z-rules))
+      (λ e f. absurd (omega (arith, z-rules)))
+      (λ e f. omega (arith, z-rules, abs-z (negsuc a +ℤ pos 17), add-z (negsuc a) (pos 17), mag-z (negsuc a +ℤ pos 17)))
+
+  -- it is never below 0
+  pub origin-back : (z : ℤ) → clampZ (negsuc 16) (pos (n - 1)) z +ℤ pos 17 ≡ pos (originOf n z)
+  unfolding originOf
+  origin-back z =
+      let held = clampZ (negsuc 16) (pos (n - 1)) z in
+      sym (pos-natAbs (held +ℤ pos 17) (omega (arith, z-rules, add-z held (pos 17), mag-z (held +ℤ pos 17), clamp-low (negsuc 16) (pos (n - 1)) z refl)))
+
+  pub origin-le : (z : ℤ) → 0 < n → originOf n z ≤ n + 16
+  origin-le (pos a) h = omega (arith, origin-pos a)
+  origin-le (negsuc a) h = omega (arith, origin-neg a)
+
+  -- no tap of a block of at most 16 can tell that its place was held
+  pub near-place : (z : ℤ) (c : ℕ) → c ≤ 16 → near n (originOf n z + c) ≡ nearest n (z +ℤ pos c)
+  unfolding near
+  near-place (pos a) c k = omega (arith, origin-pos a, nearest-pos (a + c))
+  near-place (negsuc a) c k =
+      sub-ind (λ v. min (originOf n (negsuc a) + c - 17) (n - 1) ≡ nearest n v) c (suc a)
+      (λ m e. omega (arith, origin-neg a, nearest-neg m))
+      (λ m e. omega (arith, origin-neg a, nearest-pos m))
+
+-- ---- one axis: sample c of a block at x with the vector's part v
+module _ (n : ℕ) (x v : ℤ) (c : ℕ) where
+  phase : modZ v 6 ≡ modZ (sixths (x +ℤ pos c) v) 6
+  phase = sym (floor-shift 6 (x +ℤ pos c) v (omega arith) .1)
+
+  whole : (x +ℤ floorZ v 6) +ℤ pos c ≡ floorZ (sixths (x +ℤ pos c) v) 6
+  whole =
+      let e = floor-shift 6 (x +ℤ pos c) v (omega arith) .0 in
+      let d : (x +ℤ floorZ v 6) +ℤ pos c ≡ (x +ℤ pos c) +ℤ floorZ v 6 = omega (arith, z-rules, add-z (x +ℤ floorZ v 6) (pos c), add-z x (floorZ v 6), add-z (x +ℤ pos c) (floorZ v 6), add-z x (pos c)) in
+      d ∙ sym e
+
+  first : c < 16 → near n (originOf n (x +ℤ floorZ v 6) + c) ≡ nearest n (floorZ (sixths (x +ℤ pos c) v) 6)
+  first k = near-place n (x +ℤ floorZ v 6) c (omega arith) ∙ ap (nearest n) whole
+
+  second : c < 16 → near n (originOf n (x +ℤ floorZ v 6) + (c + 1)) ≡ nearest n (floorZ (sixths (x +ℤ pos c) v) 6 +ℤ pos 1)
+  second k =
+      let d : (x +ℤ floorZ v 6) +ℤ pos (c + 1) ≡ ((x +ℤ floorZ v 6) +ℤ pos c) +ℤ pos 1 = omega (arith, z-rules, add-z (x +ℤ floorZ v 6) (pos (c + 1)), add-z (x +ℤ floorZ v 6) (pos c), add-z ((x +ℤ floorZ v 6) +ℤ pos c) (pos 1)) in
+      near-place n (x +ℤ floorZ v 6) (c + 1) (omega arith) ∙ ap (nearest n) (d ∙ ap (λ (u : ℤ). u +ℤ pos 1) whole)
+
+-- the window's sample is the block's
+pub window-sample : (plane : List ℕ) (width height : ℕ) (x y vx vy : ℤ) (r c : ℕ) → r < 16 → c < 16 → windowBlock (formula (modZ vx 6) (modZ vy 6)) plane width height (originOf width (x +ℤ floorZ vx 6)) (originOf height (y +ℤ floorZ vy 6)) r c ≡ blockSample plane width height x y vx vy r c
+unfolding windowBlock windowAt lineAt blockSample sampleAt tap
+window-sample plane width height x y vx vy r c lr lc =
+    let at : ℕ → ℕ → ℕ = λ b a. getD plane (b * width + a) 0 in
+    let a = first width x vx c lc in
+    let a′ = second width x vx c lc in
+    let b = first height y vy r lr in
+    let b′ = second height y vy r lr in
+    λ i. formula (phase width x vx c i) (phase height y vy r i) (at (b i) (a i)) (at (b i) (a′ i)) (at (b′ i) (a i)) (at (b′ i) (a′ i))
+
+-- what a block is read by: phases, and the place of its first tap
+pub record Placed (width height : ℕ) (x y vx vy : ℤ) (bx by px py : ℕ) : Type 0 where
+  pub across-phase : px ≡ modZ vx 6
+  pub down-phase : py ≡ modZ vy 6
+  pub across : bx ≡ originOf width (x +ℤ floorZ vx 6)
+  pub down : by ≡ originOf height (y +ℤ floorZ vy 6)
+
+pub placed-sample : (plane : List ℕ) {width height : ℕ} {x y vx vy : ℤ} {bx by px py : ℕ} → Placed width height x y vx vy bx by px py → (r c : ℕ) → r < 16 → c < 16 → windowBlock (formula px py) plane width height bx by r c ≡ blockSample plane width height x y vx vy r c
+placed-sample plane {width} {height} {x} {y} {vx} {vy} p r c lr lc = rw (p .across-phase, p .down-phase, p .across, p .down) (window-sample plane width height x y vx vy r c lr lc)
+
+-- ---- whole samples alone read one tap each
+pub extra-none : extra 0 0 ≡ 0
+unfolding extra if_then_else_
+extra-none = refl
+
+pub extra-down : (py : ℕ) → (py ≡ 0 → ⊥) → extra 0 py ≡ 1
+unfolding extra if_then_else_
+extra-down py h = rw (ne-eqb py 0 h)
+
+pub extra-across : (px py : ℕ) → (px ≡ 0 → ⊥) → extra px py ≡ 1
+unfolding extra if_then_else_
+extra-across px py h = rw (ne-eqb px 0 h)
+
+extra-or : (px py : ℕ) → ((px ≡ 0) × (py ≡ 0)) ⊎ (extra px py ≡ 1)
+extra-or zero zero = inl (refl, refl)
+extra-or zero (suc py) = inr (extra-down (suc py) (λ e. omega arith))
+extra-or (suc px) py = inr (extra-across (suc px) py (λ e. omega arith))
+
+pub extra-le : (px py : ℕ) → extra px py ≤ 1
+extra-le px py = ⊎-elim (λ z. rw (z .0, z .1, extra-none) (omega arith)) (λ o. omega arith) (extra-or px py)
+
+pub extra-zero : (px py : ℕ) → extra px py ≡ 0 → (px ≡ 0) × (py ≡ 0)
+extra-zero px py e = ⊎-elim (λ z. z) (λ o. absurd (omega arith)) (extra-or px py)
+
+-- ---- the taps as they are gathered: the columns are listed once
+columns-at : (width bx k : ℕ) → k < 17 → getD (row (replicate 17 0) 0 (nearFrom width bx) 17) k 0 ≡ near width (bx + k)
+unfolding nearFrom
+columns-at width bx k h = rw zero-add at (row-same (replicate 17 0) 0 (nearFrom width bx) 17 k 0 h (omega arith))
+
+near-below : (n i : ℕ) → 0 < n → near n i < n
+unfolding near
+near-below n i h = omega arith
+
+module _ (plane : List ℕ) (width bx : ℕ) {columns : List ℕ} (is : columns ≡ row (replicate 17 0) 0 (nearFrom width bx) 17) where
+  pub column-inside : (height line k : ℕ) → Whole width height (length plane) → line < height → k < 17 → line * width + getD columns k 0 < length plane
+  column-inside height line k full lt lk =
+      let m : line * width + width ≤ height * width = more width lt in
+      rw (is, columns-at width bx k lk) (omega (arith, near-below width (bx + k) (full .columns .0), mul-comm height width))
+
+  pub picked-tap : (height by r c : ℕ) → c < 17 → picked plane (near height (by + r) * width) columns c ≡ windowAt plane width height bx by r c
+  unfolding picked windowAt lineAt
+  picked-tap height by r c lc = rw (is, columns-at width bx c lc)
+
+-- ---- two functions of four taps that agree
+pub four-same : (f g : ℕ → ℕ → ℕ → ℕ → ℕ) (src : List ℕ) (stride from r c : ℕ) → ((s t u v : ℕ) → f s t u v ≡ g s t u v) → fourBlock f src stride from r c ≡ fourBlock g src stride from r c
+unfolding fourBlock fourRow fourAt
+four-same f g src stride from r c e = e _ _ _ _
+
+-- ---- a source that holds the taps t
+four-taps : (f : ℕ → ℕ → ℕ → ℕ → ℕ) (src : List ℕ) (stride from : ℕ) (t : ℕ → ℕ → ℕ) (r c : ℕ) → ((r′ c′ : ℕ) → r′ ≤ r + 1 → c′ ≤ c + 1 → getD src (from + r′ * stride + c′) 0 ≡ t r′ c′)
+    → fourBlock f src stride from r c ≡ f (t r c) (t r (c + 1)) (t (r + 1) c) (t (r + 1) (c + 1))
+unfolding fourBlock fourRow fourAt
+four-taps f src stride from t r c e =
+    let m : (r + 1) * stride ≡ r * stride + stride = omega (arith, add-mul r 1 stride) in
+    let s : ℕ → ℕ = λ i. getD src i 0 in
+    let right : from + r * stride + c + 1 ≡ from + r * stride + (c + 1) = omega arith in
+    let below : from + r * stride + c + stride ≡ from + (r + 1) * stride + c = omega arith in
+    let across : from + r * stride + c + 1 + stride ≡ from + (r + 1) * stride + (c + 1) = omega arith in
+    let s00 = e r c (omega arith) (omega arith) in
+    let s10 = ap s right ∙ e r (c + 1) (omega arith) (omega arith) in
+    let s01 = ap s below ∙ e (r + 1) c (omega arith) (omega arith) in
+    let s11 = ap s across ∙ e (r + 1) (c + 1) (omega arith) (omega arith) in
+    λ i. f (s00 i) (s10 i) (s01 i) (s11 i)
+
+-- gathered
+pub gathered-sample : (f : ℕ → ℕ → ℕ → ℕ → ℕ) (plane window l : List ℕ) (width height bx by w h r c : ℕ) → window ≡ painted (w + 1) 0 0 (w + 1) (h + 1) (windowAt plane width height bx by) l → Inside (w + 1) 0 0 (w + 1) (h + 1) (length l) → r < h → c < w
+    → fourBlock f window (w + 1) 0 r c ≡ windowBlock f plane width height bx by r c
+unfolding windowBlock
+gathered-sample f plane window l width height bx by w h r c e i lr lc =
+    four-taps f window (w + 1) 0 (windowAt plane width height bx by) r c
+    (λ r′ c′ k k′. rw (e, zero-add) (simp (zero-add, add-zero) at (painted-same (windowAt plane width height bx by) l r′ c′ 0 i (omega arith) (omega arith))))
+
+-- ---- the plane itself
+module _ (plane : List ℕ) (width height bx by : ℕ) (left : 17 ≤ bx) (top : 17 ≤ by) where
+  inside-tap : (r c : ℕ) → by + r < height + 17 → bx + c < width + 17 → getD plane ((by - 17) * width + (bx - 17) + r * width + c) 0 ≡ windowAt plane width height bx by r c
+  unfolding windowAt lineAt near
+  inside-tap r c lr lc =
+      let a : min (bx + c - 17) (width - 1) ≡ bx - 17 + c = omega arith in
+      let b : min (by + r - 17) (height - 1) ≡ by - 17 + r = omega arith in
+      let i : (by - 17) * width + (bx - 17) + r * width + c ≡ (by - 17 + r) * width + (bx - 17 + c) = omega (arith, add-mul (by - 17) r width) in
+      rw (a, b, i)
+
+  -- the last tap is there
+  pub inside-room : (w h e : ℕ) → Whole width height (length plane) → 0 < h → by + h + e ≤ height + 17 → bx + w + e ≤ width + 17 → (by - 17) * width + (bx - 17) + (h - 1 + e) * width + w + e ≤ length plane
+  inside-room w h e full some k k′ =
+      let last : (by - 17 + (h - 1 + e)) * width + width ≤ height * width = more width (omega arith) in
+      omega (arith, add-mul (by - 17) (h - 1 + e) width, mul-comm height width)
+
+  -- no phase: one tap a sample
+  inside-whole : (r c : ℕ) → by + r < height + 17 → bx + c < width + 17 → fourBlock (formula 0 0) plane width ((by - 17) * width + (bx - 17)) r c ≡ windowBlock (formula 0 0) plane width height bx by r c
+  unfolding fourBlock fourRow fourAt windowBlock formula along if_then_else_
+  inside-whole r c lr lc = inside-tap r c lr lc
+
+  pub inside-sample : (px py r c w h : ℕ) → by + h + extra px py ≤ height + 17 → bx + w + extra px py ≤ width + 17 → r < h → c < w
+      → fourBlock (formula px py) plane width ((by - 17) * width + (bx - 17)) r c ≡ windowBlock (formula px py) plane width height bx by r c
+  unfolding windowBlock
+  inside-sample px py r c w h k k′ lr lc =
+      ⊎-elim
+      (λ e. rw (e .0, e .1) (inside-whole r c (omega arith) (omega arith)))
+      (λ e. four-taps (formula px py) plane width ((by - 17) * width + (bx - 17)) (windowAt plane width height bx by) r c (λ r′ c′ l l′. inside-tap r′ c′ (omega arith) (omega arith)))
+      (extra-or px py)

@@ -1,0 +1,46 @@
+-- The compensated block: what is asked of it, and what it leaves.
+-- Assumes nothing.
+use mathlib.Core.Path.{_≡_}
+use mathlib.Core.Bool.{Bool, _&&_}
+use mathlib.Core.List.{List}
+use Prim.Native.Nat.{ℕ, _*_, _<_, _≤_}
+use lib.Dec.{leb, eqb}
+use lib.IntN.{ℤ}
+use lib.ListN.{length}
+use Rattle.ints.specs.Z.{if_then_else_, towardZero}
+use Rattle.refusal.specs.declared.Refusal.the-variants.{StateLength, CallRange}
+use Rattle.picture.specs.Painted.{painted}
+use Rattle.compensation.specs.Sample.{blockSample}
+use Rattle.compensation.specs.declared.svq3_mc.BlockAnswer.{BlockAnswer}
+use Rattle.compensation.specs.declared.svq3_mc.BlockAnswer.the-variants.{Done, Refused}
+
+-- a plane with a sample for each of its places
+pub record Whole (width height size : ℕ) : Type 0 where
+  pub columns : (0 < width) × (width ≤ 65536)
+  pub lines : (0 < height) × (height ≤ 65536)
+  pub all : size ≡ width * height
+
+-- spans that a partition, or a block asked for alone, may have
+pub record Span (w h : ℕ) : Type 0 where
+  pub across : (0 < w) × (w ≤ 16)
+  pub down : (0 < h) × (h ≤ 16)
+
+-- 1 to `most` samples a side, and a length that matches
+unfoldable pub sidesFit : ℕ → ℕ → ℕ → ℕ → Bool
+sidesFit most w h size = leb 1 w && leb w most && leb 1 h && leb h most && eqb size (w * h)
+
+-- a plane of at most 65,536 a side: else 2; spans 1 to 16 and an output of just that size: else 5
+unfoldable pub blockAnswer : ℕ → ℕ → ℕ → ℕ → ℕ → ℕ → BlockAnswer
+blockAnswer size width height w h room =
+    if sidesFit 65536 width height size then (if sidesFit 16 w h room then Done else Refused CallRange) else Refused StateLength
+
+-- the output afterwards: on refusal as it was
+unfoldable pub blockOut : List ℕ → List ℕ → ℕ → ℕ → ℤ → ℤ → ℕ → ℕ → ℤ → ℤ → List ℕ
+blockOut out plane width height x y w h vx vy =
+    if sidesFit 65536 width height (length plane) && sidesFit 16 w h (length out)
+    then painted w 0 0 w h (blockSample plane width height x y vx vy) out
+    else out
+
+-- chroma halves the place and the vector toward zero first
+abbrev pub halved : ℤ → ℤ
+halved z = towardZero z 2

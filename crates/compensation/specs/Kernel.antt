@@ -1,0 +1,85 @@
+-- What the sample loops compute, for the contracts of inner functions: proofs/Mixes.antt and proofs/Taps.antt tie it to `formula` and to the endless plane.
+-- The rows of a source are `stride` apart; the taps of place i are i, i + u, i + v and i + u + v.
+-- Assumes nothing.
+use mathlib.Core.Path.{_≡_}
+use mathlib.Core.List.{List}
+use Prim.Native.Nat.{ℕ, _+_, _-_, _*_, _/_, _<_, _≤_, min}
+use mathlib.Core.Bool.{_&&_}
+use lib.Dec.{eqb}
+use lib.IntN.{ℤ, pos, negsuc, natAbs, _+ℤ_}
+use lib.ListN.{getD}
+use Rattle.ints.specs.Z.{if_then_else_, clampZ}
+use Rattle.compensation.specs.Formula.{half, formula}
+use Rattle.compensation.specs.declared.kernel.Mix.{Mix}
+use Rattle.compensation.specs.declared.kernel.Mix.the-variants.{Weigh, Across, Down}
+
+-- the taps weighed
+unfoldable pub weighed : ℕ → ℕ → ℕ → ℕ → ℕ → ℕ → ℕ → ℕ → ℕ
+weighed wa wb wc wd a b c d = (wa * a + wb * b + wc * c + wd * d + 6) / 12
+
+-- halfway between a and b and between c and d, then those two weighed
+unfoldable pub blended : ℕ → ℕ → ℕ → ℕ → ℕ → ℕ → ℕ
+blended near far a b c d = (near * half a b + far * half c d + 3) / 6
+
+-- by the kind of the mix
+unfoldable pub mixed : Mix → ℕ → ℕ → ℕ → ℕ → ℕ
+mixed (Weigh wa wb wc wd) a b c d = weighed wa wb wc wd a b c d
+mixed (Across near far) a b c d = blended near far a b c d
+mixed (Down near far) a b c d = blended near far a c b d
+
+-- weights that sum to 12, or to 6
+abbrev pub Even : Mix → Type 0
+Even (Weigh wa wb wc wd) = wa + wb + wc + wd ≡ 12
+Even (Across near far) = near + far ≡ 6
+Even (Down near far) = near + far ≡ 6
+
+-- the mix of two phases
+pub record MixFor (px py : ℕ) (mix : Mix) : Type 0 where
+  pub even : Even mix
+  pub is : (a b c d : ℕ) → mixed mix a b c d ≡ formula px py a b c d
+
+-- a function of the four taps at place i
+unfoldable pub fourAt : (ℕ → ℕ → ℕ → ℕ → ℕ) → List ℕ → ℕ → ℕ → ℕ → ℕ
+fourAt f src u v i = f (getD src i 0) (getD src (i + u) 0) (getD src (i + v) 0) (getD src (i + u + v) 0)
+
+-- at column c of the row that starts at `from`
+unfoldable pub fourRow : (ℕ → ℕ → ℕ → ℕ → ℕ) → List ℕ → ℕ → ℕ → ℕ → ℕ → ℕ
+fourRow f src u v from c = fourAt f src u v (from + c)
+
+-- at column c of row r of the block that starts at `from`
+unfoldable pub fourBlock : (ℕ → ℕ → ℕ → ℕ → ℕ) → List ℕ → ℕ → ℕ → ℕ → ℕ → ℕ
+fourBlock f src stride from r = fourRow f src 1 stride (from + r * stride)
+
+-- a whole place z, held in -17 to n - 1, which no tap of a block of at most 16 can tell, and counted from -17
+unfoldable pub originOf : ℕ → ℤ → ℕ
+originOf n z = natAbs (clampZ (negsuc 16) (pos (n - 1)) z +ℤ pos 17)
+
+-- the nearest of n columns, or rows, to a place so counted
+unfoldable pub near : ℕ → ℕ → ℕ
+near n i = min (i - 17) (n - 1)
+
+-- the same, c places on
+unfoldable pub nearFrom : ℕ → ℕ → ℕ → ℕ
+nearFrom n i c = near n (i + c)
+
+-- the sample of a line of the plane at the c-th column of a list
+unfoldable pub picked : List ℕ → ℕ → List ℕ → ℕ → ℕ
+picked plane line columns c = getD plane (line + getD columns c 0) 0
+
+-- the sample of a line of the plane, c columns on from the place bx
+unfoldable pub lineAt : List ℕ → ℕ → ℕ → ℕ → ℕ → ℕ
+lineAt plane line width bx c = getD plane (line + near width (bx + c)) 0
+
+-- tap c of row r of a block whose first lies at (bx, by)
+unfoldable pub windowAt : List ℕ → ℕ → ℕ → ℕ → ℕ → ℕ → ℕ → ℕ
+windowAt plane width height bx by r = lineAt plane (near height (by + r) * width) width bx
+
+-- a function of the four taps of sample c of row r
+unfoldable pub windowBlock : (ℕ → ℕ → ℕ → ℕ → ℕ) → List ℕ → ℕ → ℕ → ℕ → ℕ → ℕ → ℕ → ℕ
+windowBlock f plane width height bx by r c =
+    let s = windowAt plane width height bx by in
+    f (s r c) (s r (c + 1)) (s (r + 1) c) (s (r + 1) (c + 1))
+
+-- how many taps past its samples a block reads, each way
+unfoldable pub extra : ℕ → ℕ → ℕ
+extra px py = if eqb px 0 && eqb py 0 then 0 else 1

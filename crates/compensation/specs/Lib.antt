@@ -1,0 +1,4 @@
+pub mod Formula
+pub mod Sample
+pub mod Block
+pub mod Kernel

@@ -1,0 +1,172 @@
+// A block of a plane, moved by a vector in sixths of a sample; the plane's edges repeat without end.
+ghost use mathlib.Core.Path.{_≡_};
+ghost use Prim.Native.Nat.{_+_, _/_, _<_, _≤_};
+ghost use lib.ListN.{length};
+ghost use Rattle.ints.specs.Z.{floorZ, modZ};
+ghost use Rattle.picture.specs.Painted.{Inside, painted};
+ghost use Rattle.compensation.specs.Formula.{formula};
+ghost use Rattle.compensation.specs.Sample.{blockSample};
+ghost use Rattle.compensation.specs.Kernel.{windowBlock};
+ghost use Rattle.compensation.specs.Block.{Whole, Span, sidesFit, blockAnswer, blockOut, halved};
+use crate::kernel::extra_of;
+use crate::kernel::interpolate;
+use crate::window::gather;
+use crate::window::origin;
+use ints::floor_div;
+use ints::floor_mod;
+use ints::half_toward_zero;
+use refusal::Refusal;
+
+pub struct MvComponentSplit {
+    pub whole: i32,
+    pub phase: u32,
+}
+
+pub fn split_mv_component(v: i32) -> MvComponentSplit
+    ensures { λ r. ⌜ (r .whole ≡ floorZ v 6) × (r .phase ≡ modZ v 6) ⌝ }
+{
+    MvComponentSplit {
+        whole: floor_div(v, 6),
+        phase: floor_mod(v, 6),
+    }
+}
+
+// A block some of whose taps lie past an edge.
+fn across_edge(
+    dst: &mut [u8],
+    plane: &[u8],
+    dstride: usize,
+    dx: usize,
+    dy: usize,
+    w: usize,
+    h: usize,
+    width: usize,
+    height: usize,
+    bx: usize,
+    by: usize,
+    px: u32,
+    py: u32,
+)
+    requires { ⌜ Span w h × Inside dstride dx dy w h (length (now dst)) × (px < 6) × (py < 6) ⌝ }
+    requires { ⌜ Whole width height (length (now plane)) × (bx ≤ width + 16) × (by ≤ height + 16) ⌝ }
+    ensures { λ _. ⌜ now (dst .exit) ≡ painted dstride dx dy w h (windowBlock (formula px py) (now (plane .entry)) width height bx by) (now (dst .entry)) ⌝ }
+{
+    let mut window = [0u8; 289];
+    gather(&mut window, plane, width, height, bx, by, w + 1, h + 1);
+    interpolate(dst, &window, dstride, dx, dy, w, h, w + 1, 0, px, py);
+}
+
+// The w × h block at (x, y) of `plane` with the vector (vx, vy), into `dst` at column dx of row dy.
+pub fn compensate_into(
+    dst: &mut [u8],
+    plane: &[u8],
+    dstride: usize,
+    dx: usize,
+    dy: usize,
+    w: usize,
+    h: usize,
+    width: usize,
+    height: usize,
+    x: i32,
+    y: i32,
+    vx: i32,
+    vy: i32,
+)
+    requires { ⌜ Span w h × Inside dstride dx dy w h (length (now dst)) × Whole width height (length (now plane)) ⌝ }
+    ensures { λ _. ⌜ now (dst .exit) ≡ painted dstride dx dy w h (blockSample (now (plane .entry)) width height x y vx vy) (now (dst .entry)) ⌝ }
+{
+    let sx = split_mv_component(vx);
+    let sy = split_mv_component(vy);
+    let px = sx.phase;
+    let py = sy.phase;
+    let bx = origin(x, sx.whole, width);
+    let by = origin(y, sy.whole, height);
+    let e = extra_of(px, py);
+    if (17 <= bx) & (bx + w + e <= width + 17) & (17 <= by) & (by + h + e <= height + 17) {
+        let from = (by - 17) * width + (bx - 17);
+        interpolate(dst, plane, dstride, dx, dy, w, h, width, from, px, py);
+    } else {
+        across_edge(
+            dst,
+            plane,
+            dstride,
+            dx,
+            dy,
+            w,
+            h,
+            width,
+            height,
+            bx,
+            by,
+            px,
+            py,
+        );
+    }
+}
+
+pub enum BlockAnswer {
+    // the output holds the block
+    Done,
+    Refused(Refusal),
+}
+
+// 1 to `most` samples a side, and a length that matches.
+fn sides_fit(most: usize, w: usize, h: usize, size: usize) -> bool
+    requires { ⌜ most ≤ 65536 ⌝ }
+    ensures { λ r. ⌜ r ≡ sidesFit most w h size ⌝ }
+{
+    if (1 <= w) & (w <= most) & (1 <= h) & (h <= most) {
+        size == w * h
+    } else {
+        false
+    }
+}
+
+// The compensated block alone: 2 for the plane, 5 for the spans or the output's length; else `out` is the block.
+pub fn motion_compensate_block(
+    out: &mut [u8],
+    plane: &[u8],
+    width: usize,
+    height: usize,
+    x: i32,
+    y: i32,
+    w: usize,
+    h: usize,
+    vx: i32,
+    vy: i32,
+) -> BlockAnswer
+    ensures { λ r. ⌜ r ≡ blockAnswer (length (now (plane .entry))) width height w h (length (now (out .entry))) ⌝ }
+    ensures { λ _. ⌜ now (out .exit) ≡ blockOut (now (out .entry)) (now (plane .entry)) width height x y w h vx vy ⌝ }
+{
+    if sides_fit(65536, width, height, plane.len()) {
+        if sides_fit(16, w, h, out.len()) {
+            compensate_into(out, plane, w, 0, 0, w, h, width, height, x, y, vx, vy);
+            return BlockAnswer::Done;
+        }
+        return BlockAnswer::Refused(Refusal::CallRange);
+    }
+    BlockAnswer::Refused(Refusal::StateLength)
+}
+
+// The chroma block of a luma block: place, spans and vector halved toward zero.
+pub fn motion_compensate_chroma_block(
+    out: &mut [u8],
+    plane: &[u8],
+    width: usize,
+    height: usize,
+    x: i32,
+    y: i32,
+    w: usize,
+    h: usize,
+    vx: i32,
+    vy: i32,
+) -> BlockAnswer
+    ensures { λ r. ⌜ r ≡ blockAnswer (length (now (plane .entry))) width height (w / 2) (h / 2) (length (now (out .entry))) ⌝ }
+    ensures { λ _. ⌜ now (out .exit) ≡ blockOut (now (out .entry)) (now (plane .entry)) width height (halved x) (halved y) (w / 2) (h / 2) (halved vx) (halved vy) ⌝ }
+{
+    let hx = half_toward_zero(x);
+    let hy = half_toward_zero(y);
+    let hvx = half_toward_zero(vx);
+    let hvy = half_toward_zero(vy);
+    motion_compensate_block(out, plane, width, height, hx, hy, w / 2, h / 2, hvx, hvy)
+}

@@ -1,0 +1,113 @@
+// The taps of a block: where the first lies, and, for a block across an edge, all of them by rows, edges repeated.
+ghost use mathlib.Core.Path.{_≡_};
+ghost use Prim.Native.Nat.{ℕ, _+_, _*_, _<_, _≤_};
+ghost use lib.IntN.{_+ℤ_};
+ghost use lib.ListN.{length, getD, replicate};
+ghost use Rattle.picture.specs.Painted.{Inside, painted};
+ghost use Rattle.picture.specs.Rows.{row};
+ghost use Rattle.compensation.specs.Kernel.{originOf, near, nearFrom, picked, windowAt};
+ghost use Rattle.compensation.specs.Block.{Whole};
+use ints::clamp_i64;
+
+// The column, or row, of a block's first tap.
+pub fn origin(place: i32, whole: i32, n: usize) -> usize
+    requires { ⌜ (0 < n) × (n ≤ 65536) ⌝ }
+    ensures { λ r. ⌜ r ≡ originOf n (place +ℤ whole) ⌝ }
+{
+    let last = (n - 1) as i64;
+    let o = clamp_i64((place as i64) + (whole as i64), -17, last);
+    (o + 17) as usize
+}
+
+fn near_of(n: usize, i: usize) -> usize
+    requires { ⌜ 0 < n ⌝ }
+    ensures { λ r. ⌜ (r ≡ near n i) × (r < n) ⌝ }
+{
+    if i < 17 {
+        return 0;
+    }
+    let k = i - 17;
+    if k < n { k } else { n - 1 }
+}
+
+// The columns of the taps of a row: they are the same in every row of a block.
+fn columns_of(width: usize, bx: usize) -> [usize; 17]
+    requires { ⌜ (0 < width) × (bx ≤ 131072) ⌝ }
+    ensures { λ r. ⌜ r ≡ row (replicate 17 0) 0 (nearFrom width bx) 17 ⌝ }
+{
+    let mut t = [0usize; 17];
+    let mut c = 0;
+    while c < 17 {
+        t[c] = near_of(width, bx + c);
+        c += 1;
+    }
+    t
+}
+
+fn gather_row(
+    window: &mut [u8],
+    plane: &[u8],
+    columns: &[usize; 17],
+    at: usize,
+    line: usize,
+    n: usize,
+)
+    requires { ⌜ (n ≤ 17) × (at + n ≤ length (now window)) × ((k : ℕ) → k < n → line + getD (now columns) k 0 < length (now plane)) ⌝ }
+    ensures { λ _. ⌜ now (window .exit) ≡ row (now (window .entry)) at (picked (now (plane .entry)) line (now (columns .entry))) n ⌝ }
+{
+    let mut c = 0;
+    while c < n {
+        window[at + c] = plane[line + columns[c]];
+        c += 1;
+    }
+}
+
+// The w × h taps whose first lies at (bx, by).
+fn gather_rows(
+    window: &mut [u8],
+    plane: &[u8],
+    width: usize,
+    height: usize,
+    bx: usize,
+    by: usize,
+    w: usize,
+    h: usize,
+)
+    requires { ⌜ Inside w 0 0 w h (length (now window)) × (w ≤ 17) × (h ≤ 17) ⌝ }
+    requires { ⌜ Whole width height (length (now plane)) × (bx ≤ width + 16) × (by ≤ height + 16) ⌝ }
+    ensures { λ _. ⌜ now (window .exit) ≡ painted w 0 0 w h (windowAt (now (plane .entry)) width height bx by) (now (window .entry)) ⌝ }
+{
+    let columns = columns_of(width, bx);
+    let mut r = 0;
+    while r < h {
+        let line = near_of(height, by + r) * width;
+        gather_row(window, plane, &columns, r * w, line, w);
+        r += 1;
+    }
+}
+
+// The same, with the widths of partitions known to the compiler.
+pub fn gather(
+    window: &mut [u8],
+    plane: &[u8],
+    width: usize,
+    height: usize,
+    bx: usize,
+    by: usize,
+    w: usize,
+    h: usize,
+)
+    requires { ⌜ Inside w 0 0 w h (length (now window)) × (w ≤ 17) × (h ≤ 17) ⌝ }
+    requires { ⌜ Whole width height (length (now plane)) × (bx ≤ width + 16) × (by ≤ height + 16) ⌝ }
+    ensures { λ _. ⌜ now (window .exit) ≡ painted w 0 0 w h (windowAt (now (plane .entry)) width height bx by) (now (window .entry)) ⌝ }
+{
+    if w == 17 {
+        gather_rows(window, plane, width, height, bx, by, 17, h);
+    } else if w == 9 {
+        gather_rows(window, plane, width, height, bx, by, 9, h);
+    } else if w == 5 {
+        gather_rows(window, plane, width, height, bx, by, 5, h);
+    } else {
+        gather_rows(window, plane, width, height, bx, by, w, h);
+    }
+}
