@@ -1,0 +1,46 @@
+-- How the code holds blocks: contracts of inner functions.
+-- Assumes nothing.
+use mathlib.Core.List.{List, [], _∷_}
+use Prim.Native.Nat.{ℕ, _+_, _*_, _<_}
+use lib.IntN.{ℤ, pos, negsuc, _+ℤ_}
+use lib.Signed.{mag}
+use lib.ListN.{getD}
+use Rattle.ints.specs.Z.{clampZ, clip1Z}
+use Rattle.transform.specs.Residual.{weighedBy, rounded}
+
+-- a block of 4 × 4 in an array, row by row
+unfoldable pub listed : (ℕ → ℕ → ℤ) → List ℤ
+listed x =
+    x 0 0 ∷ x 0 1 ∷ x 0 2 ∷ x 0 3
+    ∷ x 1 0 ∷ x 1 1 ∷ x 1 2 ∷ x 1 3
+    ∷ x 2 0 ∷ x 2 1 ∷ x 2 2 ∷ x 2 3
+    ∷ x 3 0 ∷ x 3 1 ∷ x 3 2 ∷ x 3 3
+    ∷ []
+
+-- columns for rows
+unfoldable pub turned : (ℕ → ℕ → ℤ) → ℕ → ℕ → ℤ
+turned x r c = x c r
+
+-- a residual, held in -4,096 to 4,095: beyond 255 it makes no more difference
+unfoldable pub short : ℤ → ℤ
+short z = clampZ (negsuc 4095) (pos 4095) z
+
+-- of each residual
+unfoldable pub shortened : (ℕ → ℕ → ℤ) → ℕ → ℕ → ℤ
+shortened x r c = short (x r c)
+
+-- the four numbers of row i, weighed by a row of the matrix
+unfoldable pub weighedRow : ℤ → ℤ → ℤ → ℤ → List ℤ → ℕ → ℤ
+weighedRow p q r s l i = weighedBy p q r s (getD l (4 * i) (pos 0)) (getD l (4 * i + 1) (pos 0)) (getD l (4 * i + 2) (pos 0)) (getD l (4 * i + 3) (pos 0))
+
+-- each number of a block, rounded with the block's DC
+unfoldable pub finished : ℤ → (ℕ → ℕ → ℤ) → ℕ → ℕ → ℤ
+finished dc t r c = rounded (t r c) dc
+
+-- each number of an array of residuals leaves room for a sample in 16 bits
+pub record Short (l : List ℤ) : Type 0 where
+  pub small : (n : ℕ) → mag (getD l n (pos 0)) < 4096
+
+-- the sample at `at + c` and the residual at `from + c`, held in 0 to 255
+unfoldable pub raisedAt : List ℕ → ℕ → List ℤ → ℕ → ℕ → ℕ
+raisedAt plane at residual from c = clip1Z (pos (getD plane (at + c) 0) +ℤ getD residual (from + c) (pos 0))

@@ -1,0 +1,6 @@
+-- What the contracts of this crate cite.
+pub mod Tables
+pub mod Residual
+pub mod ChromaDc
+pub mod Added
+pub mod Arrays
