@@ -13,16 +13,12 @@ rm -f "$out/reference" "$out/checked"
 "$here/build.sh" checked
 [ -x "$out/checked" ] || exit 0
 
-# A list that a program of the gate replays is kept as its input.
-kept_in() {
-    if [ -f "$root/crates/$1/stdin" ]; then echo "$root/crates/$1/stdin"; else echo "$here/vectors/$1.bin"; fi
-}
-
 for list in readers samples; do
     "$out/reference" vectors $list > "$out/$list.bin"
     # No question makes the Rust overflow.
     "$out/checked" vectors $list | cmp - "$out/$list.bin"
-    kept=$(kept_in $list)
+    # A list is kept as the input of the program that replays it.
+    kept=$root/crates/$list/stdin
     [ "${1:-}" != write ] || cp "$out/$list.bin" "$kept"
     cmp "$out/$list.bin" "$kept"
     echo "$list: $(($("$out/reference" vectors $list text | wc -l))) questions, answers as kept"

@@ -1,0 +1,16 @@
+-- `samples::block::agrees` is safe: a block of at most 256 samples.
+use native.Mathlib.Omega.{arith}
+use lib.ListN.{length-take}
+use borrow.Author.Needs.{needs}
+use Rattle.samples.proofs.block.agrees.Statement.{statement}
+use Rattle.samples.proofs.block.agrees.Tie as tie
+
+pub agrees-spec : {M : Type 1} → statement M
+agrees-spec =
+    tie.close
+    (tie.spec
+    (λ c. search needs)
+    (λ c. simp length-take (omega arith))
+    (λ c κs. search needs)
+    (λ c. search needs)
+    (λ c. search needs))
