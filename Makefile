@@ -1,6 +1,7 @@
 # make demo   the main job on an example
 # make test   the gate: the comparison with the published Rust where rustc is at hand, then rt ci
-.PHONY: demo test compare
+# make host   a C program that calls the desk library, where cc is at hand
+.PHONY: demo test compare host
 
 demo:
 	rt check readers
@@ -10,3 +11,6 @@ compare:
 
 test: compare
 	rt ci
+
+host:
+	tools/host/run.sh
