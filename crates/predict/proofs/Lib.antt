@@ -1,0 +1,5 @@
+pub mod Predictors
+pub mod Moves
+pub mod Storing
+pub mod Windows
+pub mod Examples

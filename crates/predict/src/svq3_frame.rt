@@ -1,0 +1,243 @@
+// A partition's vector: predicted from its neighbours, turned to the precision's unit, moved by a difference, and stored.
+ghost use mathlib.Core.Path.{_≡_};
+ghost use Prim.Native.Nat.{_+_, _*_, _≤_};
+ghost use lib.IntN.{pos, natAbs, _*ℤ_};
+ghost use lib.ListN.{length};
+ghost use Rattle.ints.specs.Z.{satZ, overZ};
+ghost use Rattle.picture.specs.Painted.{Inside};
+ghost use Rattle.picture.specs.Rows.{row};
+ghost use Rattle.predict.specs.Predict.{orElse, vectorOf, present, medianOf, combined, heldIn};
+ghost use Rattle.predict.specs.Units.{roundToSixths, convertPredictor, storedScale, storedPart, clippedPart};
+ghost use Rattle.predict.specs.Stored.{pairOf, storedVectors, storedMarks};
+use ints::clamp_i64;
+use ints::median3;
+use ints::sat_add;
+use ints::sat_mul;
+use picture::rows::fill;
+use vectors::svq3_mb::Svq3MvPrecision;
+
+// A component of a stored vector or of its predictor.
+pub struct Sixths(pub i32);
+
+// A component in the precision's unit: a difference, or a predictor that was converted.
+pub struct Units(pub i32);
+
+pub struct Vector {
+    pub x: Sixths,
+    pub y: Sixths,
+}
+
+// A neighbour: no vector where it lies off the picture or is marked 0.
+pub enum Near {
+    Missing,
+    Here(Vector),
+}
+
+// C, or D where C is missing.
+pub fn or_else(c: Near, d: Near) -> Near
+    ensures { λ r. ⌜ r ≡ orElse c d ⌝ }
+{
+    match c {
+        Near::Missing => d,
+        Near::Here(v) => Near::Here(v),
+    }
+}
+
+// A missing one counts as 0.
+fn vector_of(a: Near) -> Vector
+    ensures { λ r. ⌜ r ≡ vectorOf a ⌝ }
+{
+    match a {
+        Near::Missing => Vector {
+            x: Sixths(0),
+            y: Sixths(0),
+        },
+        Near::Here(v) => v,
+    }
+}
+
+fn present(a: Near) -> u32
+    ensures { λ r. ⌜ r ≡ present a ⌝ }
+{
+    match a {
+        Near::Missing => 0,
+        Near::Here(_) => 1,
+    }
+}
+
+fn median_of(a: Vector, b: Vector, c: Vector) -> Vector
+    ensures { λ r. ⌜ r ≡ medianOf a b c ⌝ }
+{
+    Vector {
+        x: Sixths(median3(a.x.0, b.x.0, c.x.0)),
+        y: Sixths(median3(a.y.0, b.y.0, c.y.0)),
+    }
+}
+
+// The prediction from A, B and C.
+pub fn combined(a: Near, b: Near, c: Near) -> Vector
+    ensures { λ r. ⌜ r ≡ combined a b c ⌝ }
+{
+    if present(a) + present(b) + present(c) < 2 {
+        return vector_of(or_else(a, or_else(b, c)));
+    }
+    median_of(vector_of(a), vector_of(b), vector_of(c))
+}
+
+// p, held so that the span that it points to lies in the picture.
+pub fn held_in(side: usize, place: usize, span: usize, p: Sixths) -> Sixths
+    requires { ⌜ (place + span ≤ side) × (side ≤ 65536) ⌝ }
+    ensures { λ r. ⌜ r .0 ≡ heldIn side place span (p .0) ⌝ }
+{
+    let at = 6 * (place as i64);
+    let most = 6 * ((side - span) as i64);
+    Sixths((clamp_i64(at + (p.0 as i64), 0, most) - at) as i32)
+}
+
+fn round_to_sixths(v: i32) -> i32
+    requires { ⌜ natAbs v ≤ 786432 ⌝ }
+    ensures { λ r. ⌜ r ≡ roundToSixths v ⌝ }
+{
+    if v < 0 { (v - 2) / 6 } else { (v + 3) / 6 }
+}
+
+// A held predictor in the precision's unit.
+pub fn convert_predictor(p: Sixths, precision: Svq3MvPrecision) -> Units
+    requires { ⌜ natAbs (p .0) ≤ 393216 ⌝ }
+    ensures { λ r. ⌜ r .0 ≡ convertPredictor precision (p .0) ⌝ }
+{
+    match precision {
+        Svq3MvPrecision::Fullpel => Units(round_to_sixths(p.0)),
+        Svq3MvPrecision::Halfpel => Units(round_to_sixths(2 * p.0)),
+        Svq3MvPrecision::Thirdpel => Units((p.0 + 1) >> 1),
+    }
+}
+
+// How many sixths a unit is.
+pub fn stored_scale(precision: Svq3MvPrecision) -> i32
+    ensures { λ r. ⌜ r ≡ pos (storedScale precision) ⌝ }
+{
+    match precision {
+        Svq3MvPrecision::Fullpel => 6,
+        Svq3MvPrecision::Halfpel => 3,
+        Svq3MvPrecision::Thirdpel => 2,
+    }
+}
+
+// A component in sixths, and whether a sum or a product left i32 on the way.
+pub struct Moved {
+    pub value: Sixths,
+    pub clipped: bool,
+}
+
+// Units in sixths.
+pub fn stored(u: Units, precision: Svq3MvPrecision) -> Moved
+    ensures { λ r. ⌜ r .value .0 ≡ satZ (u .0 *ℤ pos (storedScale precision)) ⌝ }
+    ensures { λ r. ⌜ r .clipped ≡ overZ (u .0 *ℤ pos (storedScale precision)) ⌝ }
+{
+    let product = sat_mul(u.0, stored_scale(precision));
+    Moved {
+        value: Sixths(product.value),
+        clipped: product.over,
+    }
+}
+
+// The held predictor p moved by the difference d.
+pub fn move_component(p: Sixths, precision: Svq3MvPrecision, d: Units) -> Moved
+    requires { ⌜ natAbs (p .0) ≤ 393216 ⌝ }
+    ensures { λ r. ⌜ r .value .0 ≡ storedPart precision (p .0) (d .0) ⌝ }
+    ensures { λ r. ⌜ r .clipped ≡ clippedPart precision (p .0) (d .0) ⌝ }
+{
+    let from = convert_predictor(p, precision);
+    let sum = sat_add(from.0, d.0);
+    let moved = stored(Units(sum.value), precision);
+    let value = moved.value;
+    Moved {
+        value,
+        clipped: sum.over | moved.clipped,
+    }
+}
+
+// The vector to n cells, from number `at` on.
+fn fill_vectors_row(mv: &mut [i32], at: usize, n: usize, vx: i32, vy: i32)
+    requires { ⌜ at + 2 * n ≤ length (now mv) ⌝ }
+    ensures { λ _. ⌜ now (mv .exit) ≡ row (now (mv .entry)) at (pairOf vx vy 0) (2 * n) ⌝ }
+{
+    let mut c = 0;
+    while c < n {
+        let i = at + 2 * c;
+        mv[i] = vx;
+        mv[i + 1] = vy;
+        c += 1;
+    }
+}
+
+// The vector to wide × high cells from column x of row y on.
+fn fill_vectors(
+    mv: &mut [i32],
+    stride: usize,
+    x: usize,
+    y: usize,
+    wide: usize,
+    high: usize,
+    vx: i32,
+    vy: i32,
+)
+    requires { ⌜ (stride ≤ 16384) × Inside (2 * stride) (2 * x) y (2 * wide) high (length (now mv)) ⌝ }
+    ensures { λ _. ⌜ now (mv .exit) ≡ storedVectors (now (mv .entry)) stride x y wide high vx vy ⌝ }
+{
+    let numbers = 2 * stride;
+    let mut r = 0;
+    while r < high {
+        fill_vectors_row(mv, (y + r) * numbers + 2 * x, wide, vx, vy);
+        r += 1;
+    }
+}
+
+// The vector, marked 1, to wide × high cells from column x of row y on; rows have `stride` cells.
+pub fn store_cells(
+    mv: &mut [i32],
+    marks: &mut [u8],
+    stride: usize,
+    x: usize,
+    y: usize,
+    wide: usize,
+    high: usize,
+    vx: i32,
+    vy: i32,
+)
+    requires { ⌜ (stride ≤ 16384) × (length (now mv) ≡ 2 * length (now marks)) × Inside stride x y wide high (length (now marks)) ⌝ }
+    ensures { λ _. ⌜ now (mv .exit) ≡ storedVectors (now (mv .entry)) stride x y wide high vx vy ⌝ }
+    ensures { λ _. ⌜ now (marks .exit) ≡ storedMarks (now (marks .entry)) stride x y wide high ⌝ }
+{
+    fill_vectors(mv, stride, x, y, wide, high, vx, vy);
+    fill(marks, stride, x, y, wide, high, 1);
+}
+
+// The same in a picture of `cols` macroblocks a row.
+pub fn store_partition_mv(
+    mv: &mut [i32],
+    marks: &mut [u8],
+    cols: usize,
+    x: usize,
+    y: usize,
+    wide: usize,
+    high: usize,
+    vx: i32,
+    vy: i32,
+)
+    requires { ⌜ (cols ≤ 4096) × (length (now mv) ≡ 2 * length (now marks)) × Inside (4 * cols) x y wide high (length (now marks)) ⌝ }
+    ensures { λ _. ⌜ now (mv .exit) ≡ storedVectors (now (mv .entry)) (4 * cols) x y wide high vx vy ⌝ }
+    ensures { λ _. ⌜ now (marks .exit) ≡ storedMarks (now (marks .entry)) (4 * cols) x y wide high ⌝ }
+{
+    store_cells(mv, marks, 4 * cols, x, y, wide, high, vx, vy);
+}
+
+// A skipped macroblock: its sixteen cells get vector 0, marked 1.
+pub fn mark_macroblock(mv: &mut [i32], marks: &mut [u8], cols: usize, column: usize, row: usize)
+    requires { ⌜ (cols ≤ 4096) × (length (now mv) ≡ 2 * length (now marks)) × Inside (4 * cols) (4 * column) (4 * row) 4 4 (length (now marks)) ⌝ }
+    ensures { λ _. ⌜ now (mv .exit) ≡ storedVectors (now (mv .entry)) (4 * cols) (4 * column) (4 * row) 4 4 (pos 0) (pos 0) ⌝ }
+    ensures { λ _. ⌜ now (marks .exit) ≡ storedMarks (now (marks .entry)) (4 * cols) (4 * column) (4 * row) 4 4 ⌝ }
+{
+    store_partition_mv(mv, marks, cols, 4 * column, 4 * row, 4, 4, 0, 0);
+}

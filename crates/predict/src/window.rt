@@ -1,0 +1,156 @@
+// The cells that the partitions of a macroblock see, copied: so reading a macroblock changes no lent vector or mark.
+// The window has 6 × 5 cells by rows: the macroblock's 4 × 4, a column on either side and a row above.
+ghost use mathlib.Core.Path.{_≡_};
+ghost use Prim.Native.Nat.{ℕ, _+_, _*_, _≤_, _<_};
+ghost use lib.ListN.{length};
+ghost use Rattle.picture.specs.Painted.{Inside};
+ghost use Rattle.picture.specs.Picture.{Within};
+ghost use Rattle.predict.specs.Predict.{Field, fieldOf, cellAt, aboveLeftOf, predictor};
+ghost use Rattle.predict.specs.Stored.{storedVectors, storedMarks};
+ghost use Rattle.predict.specs.Window.{Window, Seen, Part};
+use crate::svq3_frame::Near;
+use crate::svq3_frame::Sixths;
+use crate::svq3_frame::Vector;
+use crate::svq3_frame::combined;
+use crate::svq3_frame::held_in;
+use crate::svq3_frame::or_else;
+use crate::svq3_frame::store_cells;
+
+// The cell above and to the left of (x, y), as cell k of the window; marked 0 off the picture.
+fn load_cell(
+    near: &mut [i32; 60],
+    marked: &mut [u8; 30],
+    mv: &[i32],
+    marks: &[u8],
+    cols: usize,
+    x: usize,
+    y: usize,
+    k: usize,
+)
+    requires { ⌜ Window (now near) (now marked) × (k < 30) ⌝ }
+    requires { ⌜ (cols ≤ 4096) × (length (now mv) ≡ 2 * length (now marks)) × (y * (4 * cols) ≤ length (now marks)) ⌝ }
+    ensures { λ _. ⌜ Window (now (near .exit)) (now (marked .exit)) ⌝ }
+    ensures { λ _. ⌜ ((rows : ℕ) → y ≤ 4 * rows → cellAt (now (near .exit)) (now (marked .exit)) k ≡ aboveLeftOf (fieldOf cols rows (now (mv .entry)) (now (marks .entry))) x y) ⌝ }
+    ensures { λ _. ⌜ ((j : ℕ) → (j ≡ k → ⊥) → cellAt (now (near .exit)) (now (marked .exit)) j ≡ cellAt (now (near .entry)) (now (marked .entry)) j) ⌝ }
+{
+    let stride = 4 * cols;
+    if (x == 0) | (y == 0) | (stride < x) {
+        marked[k] = 0;
+        return;
+    }
+    let i = (y - 1) * stride + (x - 1);
+    marked[k] = marks[i];
+    near[2 * k] = mv[2 * i];
+    near[2 * k + 1] = mv[2 * i + 1];
+}
+
+// The row above y, from the column left of the macroblock on, as the six cells from `at` on.
+fn load_row(
+    near: &mut [i32; 60],
+    marked: &mut [u8; 30],
+    mv: &[i32],
+    marks: &[u8],
+    cols: usize,
+    column: usize,
+    y: usize,
+    at: usize,
+)
+    requires { ⌜ Window (now near) (now marked) × (at + 6 ≤ 30) ⌝ }
+    requires { ⌜ (cols ≤ 4096) × (column < cols) × (length (now mv) ≡ 2 * length (now marks)) × (y * (4 * cols) ≤ length (now marks)) ⌝ }
+    ensures { λ _. ⌜ Window (now (near .exit)) (now (marked .exit)) ⌝ }
+    ensures { λ _. ⌜ ((rows : ℕ) → y ≤ 4 * rows → (c : ℕ) → c < 6 → cellAt (now (near .exit)) (now (marked .exit)) (at + c) ≡ aboveLeftOf (fieldOf cols rows (now (mv .entry)) (now (marks .entry))) (4 * column + c) y) ⌝ }
+    ensures { λ _. ⌜ ((j : ℕ) → j < at → cellAt (now (near .exit)) (now (marked .exit)) j ≡ cellAt (now (near .entry)) (now (marked .entry)) j) ⌝ }
+{
+    let mut c = 0;
+    while c < 6 {
+        load_cell(near, marked, mv, marks, cols, 4 * column + c, y, at + c);
+        c += 1;
+    }
+}
+
+// The window of a macroblock, in a picture of any number of rows that has it.
+pub fn load_neighbours(
+    near: &mut [i32; 60],
+    marked: &mut [u8; 30],
+    mv: &[i32],
+    marks: &[u8],
+    cols: usize,
+    column: usize,
+    row: usize,
+)
+    requires { ⌜ Window (now near) (now marked) ⌝ }
+    requires { ⌜ (cols ≤ 4096) × (length (now mv) ≡ 2 * length (now marks)) × Inside (4 * cols) (4 * column) (4 * row) 4 4 (length (now marks)) ⌝ }
+    ensures { λ _. ⌜ ((rows : ℕ) → row < rows → Seen (fieldOf cols rows (now (mv .entry)) (now (marks .entry))) column row (now (near .exit)) (now (marked .exit))) ⌝ }
+{
+    let mut r = 0;
+    while r < 5 {
+        load_row(near, marked, mv, marks, cols, column, 4 * row + r, r * 6);
+        r += 1;
+    }
+}
+
+// The vector of cell i of the window.
+fn mv_block(near: &[i32; 60], marked: &[u8; 30], i: usize) -> Near
+    requires { ⌜ i < 30 ⌝ }
+    ensures { λ r. ⌜ r ≡ cellAt (now (near .entry)) (now (marked .entry)) i ⌝ }
+{
+    if marked[i] == 0 {
+        return Near::Missing;
+    }
+    let x = near[2 * i];
+    let y = near[2 * i + 1];
+    Near::Here(Vector {
+        x: Sixths(x),
+        y: Sixths(y),
+    })
+}
+
+// The predictor of the partition of wide × high cells whose first cell is (cx, cy) of its macroblock, in any field that the window shows.
+pub fn predict_mv(
+    near: &[i32; 60],
+    marked: &[u8; 30],
+    cols: usize,
+    rows: usize,
+    column: usize,
+    row: usize,
+    cx: usize,
+    cy: usize,
+    wide: usize,
+    high: usize,
+) -> Vector
+    requires { ⌜ Within cols rows column row × Part cx cy wide high ⌝ }
+    ensures { λ r. ⌜ ((f : Field) → f .cols ≡ cols → f .rows ≡ rows → Seen f column row (now (near .entry)) (now (marked .entry)) → r ≡ predictor f (4 * column + cx) (4 * row + cy) wide high) ⌝ }
+{
+    let d = cy * 6 + cx;
+    let a = mv_block(near, marked, d + 6);
+    let b = mv_block(near, marked, d + 1);
+    let c = or_else(
+        mv_block(near, marked, d + 1 + wide),
+        mv_block(near, marked, d),
+    );
+    let p = combined(a, b, c);
+    let px = p.x;
+    let py = p.y;
+    Vector {
+        x: held_in(16 * cols, 4 * (4 * column + cx), 4 * wide, px),
+        y: held_in(16 * rows, 4 * (4 * row + cy), 4 * high, py),
+    }
+}
+
+// The vector to the cells of that partition, in the window.
+pub fn store_partition_in(
+    near: &mut [i32; 60],
+    marked: &mut [u8; 30],
+    cx: usize,
+    cy: usize,
+    wide: usize,
+    high: usize,
+    vx: i32,
+    vy: i32,
+)
+    requires { ⌜ Window (now near) (now marked) × Part cx cy wide high ⌝ }
+    ensures { λ _. ⌜ now (near .exit) ≡ storedVectors (now (near .entry)) 6 (cx + 1) (cy + 1) wide high vx vy ⌝ }
+    ensures { λ _. ⌜ now (marked .exit) ≡ storedMarks (now (marked .entry)) 6 (cx + 1) (cy + 1) wide high ⌝ }
+{
+    store_cells(near, marked, 6, cx + 1, cy + 1, wide, high, vx, vy);
+}
