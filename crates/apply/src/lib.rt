@@ -1,0 +1,1 @@
+// What a record does to the planes, the vectors and the marks: the definitions.

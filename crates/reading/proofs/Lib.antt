@@ -1,0 +1,4 @@
+pub mod Alone
+pub mod Vectors
+pub mod Quantiser
+pub mod Took

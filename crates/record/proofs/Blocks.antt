@@ -1,0 +1,68 @@
+-- The lists of a macroblock's bits are a format; and what they can say a transcript can say.
+-- Assumes nothing.
+use mathlib.Core.Path.{_≡_, ap}
+use mathlib.Core.List.{List, [], _++_}
+use mathlib.Core.Logic.{⊎-elim}
+use Prim.Native.Nat.{ℕ, _+_, _≤_, _<_, _^_}
+use native.Mathlib.Nat.{le-of-lt}
+use native.Mathlib.Omega.{arith}
+use lib.Dec.{lit<}
+use lib.IntN.{ℤ, pos, negsuc, natAbs}
+use lib.Signed.{mag}
+use lib.ListN.{length, getD, take, List·getD-eq-default}
+use Rattle.refusal.specs.Format.{Format}
+use Rattle.number.proofs.Numbers.{lt-or-le}
+use Rattle.residual.specs.Book.{positions}
+use Rattle.residual.specs.Levels.{zeros, block, blockBits, BlockRange}
+use Rattle.residual.specs.declared.svq3_coeff.ResidualBook.{ResidualBook}
+use Rattle.residual.specs.declared.svq3_coeff.ResidualBook.the-variants.{NormalScan, ChromaDc}
+use Rattle.residual.proofs.Blocks.{block-format, ac-block}
+use Rattle.residual.proofs.Books.{most}
+use Rattle.residual.proofs.Ranges.{block-most}
+use Rattle.record.specs.Record.{noLevels}
+use Rattle.record.specs.Items.{itemBook, itemStart, itemCount, itemLevels, readItems, itemsBits}
+use Rattle.record.specs.Range.{ListsRange, ItemsRange, ItemRange, I32s}
+use Rattle.record.proofs.ListKinds.{by-kind, is-luma, is-dc, is-ac, start-fits}
+use Rattle.record.proofs.Lists.{lists-format}
+
+-- THE LISTS of a macroblock's bits, for each pattern
+pub items-format : (pattern : ℕ) → Format (readItems 26 0 pattern noLevels) (itemsBits 26 0 pattern) (ItemsRange pattern)
+unfolding readItems itemsBits itemCount
+items-format pattern =
+    lists-format (λ i. block (itemBook i) (itemStart i)) (λ i. blockBits (itemBook i) (itemStart i)) (λ i. BlockRange (itemBook i) (itemStart i))
+    (λ i. block-format (itemBook i) (itemStart i) (le-of-lt (start-fits i))) (λ i xs r. r .count) pattern
+
+-- ---- what bits can say is any i32
+narrow : (z : ℤ) (m : ℕ) → natAbs z ≤ m → m < 2 ^ 31 → mag z < 2 ^ 31
+narrow (pos n) m h k = omega arith
+narrow (negsuc n) m h k = omega arith
+
+most-fits : (book : ResidualBook) → most book < 2 ^ 31
+most-fits NormalScan = lit< tt
+most-fits ChromaDc = lit< tt
+
+module _ (book : ResidualBook) (start : ℕ) (h : start ≤ positions book) (bs : List ℤ) (r : BlockRange book start bs) where
+  block-i32s : I32s bs
+  block-i32s i = ⊎-elim
+      (λ (l : i < positions book).
+      narrow (getD bs i (pos 0)) (most book) (block-most book start (blockBits book start bs ++ []) bs (length (blockBits book start bs)) h (block-format book start h .reads bs [] r) i l) (most-fits book))
+      (λ (l : positions book ≤ i). let k : length bs ≤ i = omega (arith, r .count) in rw (List·getD-eq-default bs (pos 0) k) (lit< tt))
+      (lt-or-le i (positions book))
+
+-- 0 at place 0 of an AC list
+before-item : (i : ℕ) (xs : List ℤ) → BlockRange (itemBook i) (itemStart i) xs → take (itemStart i) xs ≡ zeros (itemStart i)
+before-item i xs r = by-kind i
+    (λ h. rw (is-luma i h .start))
+    (λ h k. rw (is-dc i h k .start))
+    (λ h. let a = is-ac i h in rw (a .start) (ap (take 1) (ac-block xs (rw (a .book, a .start) at r))))
+
+pub said : (pattern : ℕ) (levels : List ℤ) → ItemsRange pattern levels → ListsRange ItemRange pattern levels
+unfolding itemCount
+said pattern levels r =
+    record {
+      count = r .count;
+      coded = λ i h c.
+          let b = r .coded i h c in
+          record { count = b .count; before = before-item i (itemLevels levels i) b; fits = block-i32s (itemBook i) (itemStart i) (le-of-lt (start-fits i)) (itemLevels levels i) b };
+      others = r .others;
+    }

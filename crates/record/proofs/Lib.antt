@@ -1,0 +1,12 @@
+pub mod Turns
+pub mod Sets
+pub mod ListKinds
+pub mod Lists
+pub mod Blocks
+pub mod Fields
+pub mod Padded
+pub mod Records
+pub mod Lengths
+pub mod Walks
+pub mod BitLists
+pub mod Examples

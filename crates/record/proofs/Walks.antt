@@ -1,0 +1,117 @@
+-- The lists one at a time, as the loops read them: what holds before each list, and what each answer says of the whole.
+-- Assumes nothing.
+use mathlib.Core.Path.{_≡_, refl, sym, ap, _∙_}
+use mathlib.Core.Bool.{Bool, true, false}
+use mathlib.Core.List.{List}
+use Prim.Native.Nat.{ℕ, suc, _+_, _-_, _≤_, _<_}
+use native.Mathlib.Nat.{add-zero}
+use native.Mathlib.Numerals.{add-one}
+use native.Mathlib.Omega.{arith}
+use lib.IntN.{ℤ}
+use lib.ListN.{drop}
+use lib.Seq.{sets, drop-drop}
+use Rattle.refusal.specs.Got.{Got, got, refused, after, andThen, mapGot}
+use Rattle.refusal.specs.declared.Refusal.{Refusal}
+use Rattle.refusal.proofs.Formats.{got-value, never}
+use Rattle.residual.specs.Levels.{Decoded}
+use Rattle.residual.specs.declared.svq3_coeff.ListAnswer.{ListAnswer}
+use Rattle.residual.specs.declared.svq3_coeff.ListAnswer.the-variants.{End, Refused}
+use Rattle.residual.proofs.Gots.{after-zero, after-after}
+use Rattle.record.specs.Items.{itemCoded, itemPlace, readLists}
+use Rattle.record.specs.Answers.{Left}
+use Rattle.record.proofs.Turns.{when-true, when-false}
+
+-- ---- what an answer says
+pub record Ended (at : ℕ) (read : Got (List ℤ)) (next : ℕ) (left : List ℤ) : Type 0 where
+  pub taken : ℕ
+  pub is : read ≡ got left taken
+  pub moved : next ≡ at + taken
+
+pub ended : (at : ℕ) (read : Got (List ℤ)) (next : ℕ) (left : List ℤ) → Left at read (End next) left → Ended at read next left
+ended at (got ls n) next left l = record { taken = n; is = ap (λ (x : List ℤ). got x n) (sym (l .leaves ls n refl)); moved = (let e = l .answers in cc) }
+ended at (refused r) next left l = absurd (let e = l .answers in let z : _≡_ {A = ℕ} 0 1 = cc in omega arith)
+
+pub refused-by : (at : ℕ) (read : Got (List ℤ)) (r : Refusal) (left : List ℤ) → Left at read (Refused r) left → read ≡ refused r
+refused-by at (got ls n) r left l = absurd (let e = l .answers in let z : _≡_ {A = ℕ} 0 1 = cc in omega arith)
+refused-by at (refused q) r left l = ap refused (let e = l .answers in cc)
+
+-- and the other way round
+pub left-end : (at : ℕ) (read : Got (List ℤ)) (next n : ℕ) (left : List ℤ) → read ≡ got left n → next ≡ at + n → Left at read (End next) left
+left-end at read next n left e m = record { answers = rw (e, m); leaves = λ ls k f. got-value (sym e ∙ f) }
+
+pub left-refused : (at : ℕ) (read : Got (List ℤ)) (r : Refusal) (left : List ℤ) → read ≡ refused r → Left at read (Refused r) left
+left-refused at read r left e = record { answers = rw e; leaves = λ ls k f. never (sym e ∙ f) }
+
+-- a list that was read and stored at a place
+pub stored : (at : ℕ) (read : Got (List ℤ)) (out : List ℤ) (place : ℕ) (answer : ListAnswer) (left : List ℤ) → Decoded at read out place answer left → Left at (mapGot (sets out place) read) answer left
+stored at (got xs n) out place answer left d = record { answers = d .answers; leaves = λ ls k e. d .leaves ∙ got-value e }
+stored at (refused r) out place answer left d = record { answers = d .answers; leaves = λ ls k e. never e }
+
+module _ {E : Type 0} (read : ℕ → List E → Got (List ℤ)) (pattern : ℕ) where
+  -- ---- one list
+  pub one-coded : (i : ℕ) (ls : List ℤ) (s : List E) → itemCoded pattern i ≡ true → readLists read 1 i pattern ls s ≡ mapGot (sets ls (itemPlace i)) (read i s)
+  unfolding readLists
+  one-coded i ls s t = when-true (itemCoded pattern i) _ _ t ∙ go (read i s)
+    where
+      go : (g : Got (List ℤ)) → andThen g s (λ found rest. got (sets ls (itemPlace i) found) 0) ≡ mapGot (sets ls (itemPlace i)) g
+      go (got xs n) = ap (got (sets ls (itemPlace i) xs)) (add-zero n)
+      go (refused r) = refl
+
+  pub one-passed : (i : ℕ) (ls : List ℤ) (s : List E) → itemCoded pattern i ≡ false → readLists read 1 i pattern ls s ≡ got ls 0
+  unfolding readLists
+  one-passed i ls s t = when-false (itemCoded pattern i) _ _ t
+
+  -- one list, then those behind it
+  one-more : (n i : ℕ) (ls : List ℤ) (s : List E) → readLists read (suc n) i pattern ls s ≡ andThen (readLists read 1 i pattern ls s) s (readLists read n (suc i) pattern)
+  unfolding readLists
+  one-more n i ls s = go (itemCoded pattern i) refl
+    where
+      join : (g : Got (List ℤ)) → andThen g s (λ found. readLists read n (suc i) pattern (sets ls (itemPlace i) found)) ≡ andThen (mapGot (sets ls (itemPlace i)) g) s (readLists read n (suc i) pattern)
+      join (got xs n) = refl
+      join (refused r) = refl
+
+      go : (t : Bool) → itemCoded pattern i ≡ t → readLists read (suc n) i pattern ls s ≡ andThen (readLists read 1 i pattern ls s) s (readLists read n (suc i) pattern)
+      go true t = when-true (itemCoded pattern i) _ _ t ∙ join (read i s) ∙ ap (λ (g : Got (List ℤ)). andThen g s (readLists read n (suc i) pattern)) (sym (one-coded i ls s t))
+      go false t =
+          when-false (itemCoded pattern i) _ _ t ∙ sym (after-zero (readLists read n (suc i) pattern ls s)) ∙ ap (λ (g : Got (List ℤ)). andThen g s (readLists read n (suc i) pattern)) (sym (one-passed i ls s t))
+
+  -- ---- before list i, at the place p: the levels so far, and what is still to be read
+  pub record Going (ls₀ : List ℤ) (s : List E) (at i p : ℕ) (ls : List ℤ) : Type 0 where
+    pub is : readLists read 26 0 pattern ls₀ (drop at s) ≡ after (p - at) (readLists read (26 - i) i pattern ls (drop p s))
+    pub on : at ≤ p
+    pub some : i ≤ 26
+
+  pub begins : (ls : List ℤ) (s : List E) (at : ℕ) → Going ls s at 0 at ls
+  begins ls s at =
+      let z : at - at ≡ 0 = omega arith in
+      record { is = rw z (sym (after-zero (readLists read 26 0 pattern ls (drop at s)))); on = omega arith; some = omega arith }
+
+  module _ {ls₀ : List ℤ} {s : List E} {at i p : ℕ} {ls : List ℤ} (g : Going ls₀ s at i p ls) where
+    step : i < 26 → readLists read 26 0 pattern ls₀ (drop at s) ≡ after (p - at) (andThen (readLists read 1 i pattern ls (drop p s)) (drop p s) (readLists read (26 - suc i) (suc i) pattern))
+    step h =
+        let e : 26 - i ≡ suc (26 - suc i) = omega arith in
+        g .is ∙ ap (after (p - at)) (ap (λ (n : ℕ). readLists read n i pattern ls (drop p s)) e ∙ one-more (26 - suc i) i ls (drop p s))
+
+    pub goes-on : (answer : ListAnswer) (next : ℕ) (left : List ℤ) → i < 26 → answer ≡ End next → Left p (readLists read 1 i pattern ls (drop p s)) answer left → Going ls₀ s at (i + 1) next left
+    goes-on answer next left h a l =
+        let e = ended p (readLists read 1 i pattern ls (drop p s)) next left (rw a at l) in
+        let rest : List E → Got (List ℤ) = readLists read (26 - suc i) (suc i) pattern left in
+        let far : p - at + e .taken ≡ next - at = omega (arith, e .moved, g .on) in
+        let there : drop (e .taken) (drop p s) ≡ drop next s = drop-drop (e .taken) p s ∙ ap (λ (n : ℕ). drop n s) (sym (e .moved)) in
+        record {
+          is = rw (add-one i) (step h ∙ ap (λ (a : Got (List ℤ)). after (p - at) (andThen a (drop p s) (readLists read (26 - suc i) (suc i) pattern))) (e .is)
+              ∙ after-after (p - at) (e .taken) (rest (drop (e .taken) (drop p s))) ∙ ap (λ (n : ℕ). after n (rest (drop (e .taken) (drop p s)))) far ∙ ap (λ (u : List E). after (next - at) (rest u)) there);
+          on = omega (arith, e .moved, g .on);
+          some = omega arith;
+        }
+
+    pub stops : (answer : ListAnswer) (r : Refusal) (left : List ℤ) → i < 26 → answer ≡ Refused r → Left p (readLists read 1 i pattern ls (drop p s)) answer left → Left at (readLists read 26 0 pattern ls₀ (drop at s)) (Refused r) left
+    stops answer r left h a l =
+        left-refused at (readLists read 26 0 pattern ls₀ (drop at s)) r left
+        (step h ∙ ap (λ (a : Got (List ℤ)). after (p - at) (andThen a (drop p s) (readLists read (26 - suc i) (suc i) pattern))) (refused-by p (readLists read 1 i pattern ls (drop p s)) r left (rw a at l)))
+
+    pub ends : 26 ≤ i → Left at (readLists read 26 0 pattern ls₀ (drop at s)) (End p) ls
+    unfolding readLists
+    ends h =
+        let z : 26 - i ≡ 0 = omega arith in
+        left-end at (readLists read 26 0 pattern ls₀ (drop at s)) p (p - at + 0) ls (g .is ∙ ap (λ (n : ℕ). after (p - at) (readLists read n i pattern ls (drop p s))) z) (omega (arith, g .on))

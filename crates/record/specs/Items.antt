@@ -1,0 +1,58 @@
+-- The 26 lists of levels, in the order in which they are read and written: 16 luma blocks, four for each quadrant in bit order; Cb DC, Cr DC; four Cb blocks, four Cr blocks.
+-- Assumes nothing.
+use mathlib.Core.Bool.{Bool}
+use mathlib.Core.List.{List, [], _++_}
+use Prim.Native.Nat.{ℕ, zero, suc, _+_, _-_, _*_, _/_}
+use lib.Dec.{eqb, ltb}
+use lib.IntN.{ℤ}
+use lib.ListN.{take, drop}
+use lib.Seq.{sets}
+use Rattle.ints.specs.Z.{if_then_else_}
+use Rattle.refusal.specs.Got.{Got, got, andThen}
+use Rattle.residual.specs.Book.{positions}
+use Rattle.residual.specs.Levels.{block, blockBits}
+use Rattle.residual.specs.Pattern.{classOf, quadrantCoded}
+use Rattle.residual.specs.declared.svq3_coeff.ResidualBook.{ResidualBook}
+use Rattle.residual.specs.declared.svq3_coeff.ResidualBook.the-variants.{NormalScan, ChromaDc}
+
+-- a luma list by its quadrant, chroma DC from class 1 on, chroma AC at class 2
+unfoldable pub itemCoded : ℕ → ℕ → Bool
+itemCoded pattern i = if ltb i 16 then quadrantCoded pattern (i / 4) else if ltb i 18 then ltb 0 (classOf pattern) else eqb (classOf pattern) 2
+
+unfoldable pub itemBook : ℕ → ResidualBook
+itemBook i = if ltb i 16 then NormalScan else if ltb i 18 then ChromaDc else NormalScan
+
+-- AC lists start at position 1
+unfoldable pub itemStart : ℕ → ℕ
+itemStart i = if ltb i 18 then 0 else 1
+
+-- list i has so many levels, from this place on among the record's 392; an AC list has place 0 too, which stays 0
+unfoldable pub itemCount : ℕ → ℕ
+itemCount i = positions (itemBook i)
+
+unfoldable pub itemPlace : ℕ → ℕ
+itemPlace i = if ltb i 16 then 16 * i else if ltb i 18 then 256 + 4 * (i - 16) else 264 + 16 * (i - 18)
+
+-- its levels, by raster place
+unfoldable pub itemLevels : List ℤ → ℕ → List ℤ
+itemLevels levels i = take (itemCount i) (drop (itemPlace i) levels)
+
+-- the coded ones of the n lists from the i-th on: each is read by `read` and put at its place
+unfoldable pub readLists : {E : Type 0} → (ℕ → List E → Got (List ℤ)) → ℕ → ℕ → ℕ → List ℤ → List E → Got (List ℤ)
+readLists read zero i pattern levels s = got levels 0
+readLists read (suc n) i pattern levels s =
+    if itemCoded pattern i
+    then andThen (read i s) s (λ found rest. readLists read n (suc i) pattern (sets levels (itemPlace i) found) rest)
+    else readLists read n (suc i) pattern levels s
+
+-- they, one after another, as `write` has each
+unfoldable pub writeLists : {E : Type 0} → (ℕ → List ℤ → List E) → ℕ → ℕ → ℕ → List ℤ → List E
+writeLists write zero i pattern levels = []
+writeLists write (suc n) i pattern levels = (if itemCoded pattern i then write i (itemLevels levels i) else []) ++ writeLists write n (suc i) pattern levels
+
+-- read from the bits of a macroblock, and those bits
+unfoldable pub readItems : ℕ → ℕ → ℕ → List ℤ → List Bool → Got (List ℤ)
+readItems = readLists (λ i. block (itemBook i) (itemStart i))
+
+unfoldable pub itemsBits : ℕ → ℕ → ℕ → List ℤ → List Bool
+itemsBits = writeLists (λ i. blockBits (itemBook i) (itemStart i))

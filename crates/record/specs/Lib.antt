@@ -1,0 +1,6 @@
+pub mod Record
+pub mod Items
+pub mod Write
+pub mod Parse
+pub mod Range
+pub mod Answers

@@ -1,0 +1,5 @@
+pub mod Ready
+pub mod Traces
+pub mod Paths
+pub mod UniqueReading
+pub mod ReplayOfRun

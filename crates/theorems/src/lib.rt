@@ -1,0 +1,1 @@
+// Theorems about runs, transcripts and replay: no code.
