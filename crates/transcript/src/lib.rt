@@ -1,0 +1,2 @@
+// Records as a transcript has them: written to bytes and read back.
+pub mod write;

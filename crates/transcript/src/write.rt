@@ -1,0 +1,90 @@
+// A record is written to the transcript.
+ghost use mathlib.Core.Path.{_≡_};
+ghost use Prim.Native.Nat.{_+_, _≤_, _<_};
+ghost use lib.ListN.{length, take, drop};
+ghost use Rattle.record.specs.Write.{signedNumbers, itemsBytes, restBytes, recordBytes};
+ghost use Rattle.record.specs.Record.{recordOf};
+ghost use Rattle.transcript.specs.Answers.{Written};
+ghost use Rattle.record.specs.Range.{HeadRange};
+use number::put_number;
+use number::put_signed_number;
+use record::Head;
+use record::items::item_coded;
+use record::items::item_count;
+use record::items::item_place;
+use record::items::item_start;
+use vectors::svq3_mb::num_motion_vectors;
+
+// `count` signed numbers from the place `first` on, one after another.
+fn put_signed_numbers(
+    out: &mut [u8],
+    numbers: &[i32],
+    at: usize,
+    first: usize,
+    count: usize,
+) -> usize
+    requires { ⌜ (first + count ≤ length (now numbers)) × (at + length (signedNumbers (take count (drop first (now numbers)))) ≤ length (now out)) ⌝ }
+    ensures { λ r. ⌜ Written (now (out .entry)) at (signedNumbers (take count (drop first (now (numbers .entry))))) r (now (out .exit)) ⌝ }
+{
+    let mut p = at;
+    let mut i = 0;
+    while i < count {
+        p = put_signed_number(out, p, numbers[first + i]);
+        i += 1;
+    }
+    p
+}
+
+// The levels of list i, where it is coded.
+fn put_item(out: &mut [u8], levels: &[i32], at: usize, pattern: u8, i: usize) -> usize
+    requires { ⌜ (i < 26) × (length (now levels) ≡ 392) × (at + length (itemsBytes 1 i pattern (now levels)) ≤ length (now out)) ⌝ }
+    ensures { λ r. ⌜ Written (now (out .entry)) at (itemsBytes 1 i pattern (now (levels .entry))) r (now (out .exit)) ⌝ }
+{
+    if !item_coded(pattern, i) {
+        return at;
+    }
+    let start = item_start(i);
+    let count = item_count(i);
+    let place = item_place(i);
+    put_signed_numbers(out, levels, at, place + start, count - start)
+}
+
+fn put_items(out: &mut [u8], levels: &[i32], at: usize, pattern: u8) -> usize
+    requires { ⌜ (length (now levels) ≡ 392) × (at + length (itemsBytes 26 0 pattern (now levels)) ≤ length (now out)) ⌝ }
+    ensures { λ r. ⌜ Written (now (out .entry)) at (itemsBytes 26 0 pattern (now (levels .entry))) r (now (out .exit)) ⌝ }
+{
+    let mut p = at;
+    let mut i = 0;
+    while i < 26 {
+        p = put_item(out, levels, p, pattern, i);
+        i += 1;
+    }
+    p
+}
+
+// What follows the mode of a record that is no skip.
+fn put_rest(out: &mut [u8], vectors: &[i32], levels: &[i32], at: usize, head: Head) -> usize
+    requires { ⌜ HeadRange head × (length (now vectors) ≡ 32) × (length (now levels) ≡ 392) × (at + length (restBytes (recordOf head (now vectors) (now levels))) ≤ length (now out)) ⌝ }
+    ensures { λ r. ⌜ Written (now (out .entry)) at (restBytes (recordOf head (now (vectors .entry)) (now (levels .entry)))) r (now (out .exit)) ⌝ }
+{
+    let p = put_number(out, at, head.precision);
+    let p = put_number(out, p, head.clipped);
+    let p = put_signed_numbers(out, vectors, p, 0, 2 * num_motion_vectors(head.mode));
+    let p = put_number(out, p, head.pattern);
+    let p = put_number(out, p, head.quantiser);
+    put_items(out, levels, p, head.pattern as u8)
+}
+
+// Writes a record from a place on, and answers the place after it.
+pub fn put_record(out: &mut [u8], vectors: &[i32], levels: &[i32], at: usize, head: Head) -> usize
+    requires { ⌜ HeadRange head × (length (now vectors) ≡ 32) × (length (now levels) ≡ 392) × (at + 2089 ≤ length (now out)) ⌝ }
+    ensures { λ r. ⌜ Written (now (out .entry)) at (recordBytes (recordOf head (now (vectors .entry)) (now (levels .entry)))) r (now (out .exit)) ⌝ }
+{
+    let p = put_number(out, at, head.column);
+    let p = put_number(out, p, head.row);
+    let p = put_number(out, p, head.mode);
+    if head.mode == 0 {
+        return p;
+    }
+    put_rest(out, vectors, levels, p, head)
+}
