@@ -2,10 +2,12 @@
 // tools/reference/README.md has the list's form.
 mod block;
 mod record;
+mod residual;
 
 ghost use Prim.Native.Nat.{_≤_, _<_};
 use crate::record::fill;
 use crate::record::number_at;
+use crate::record::wide;
 use libc::STDOUT_FILENO;
 
 // The plane of the blocks that follow: the first `size` samples of the buffer.
@@ -60,7 +62,7 @@ fn take_plane(samples: &mut [u8], head: &[u8; 32]) -> Turn
     compared(plane, 0, fill(samples, size))
 }
 
-fn question(head: &[u8; 32], samples: &[u8], plane: Plane, answered: &[u8]) -> Turn
+fn question(head: &[u8; 32], samples: &[u8], plane: Plane, given: &[u8], answered: &[u8]) -> Turn
     ensures { λ r. ⌜ (r .blocks ≤ 1) × (r .differ ≤ 1) × (r .skipped ≤ 1) ⌝ }
 {
     let size = plane.size;
@@ -72,6 +74,11 @@ fn question(head: &[u8; 32], samples: &[u8], plane: Plane, answered: &[u8]) -> T
             plane,
             1,
             block::agrees(head, &samples[..size], plane, answered),
+        ),
+        19 | 20 => compared(
+            plane,
+            1,
+            residual::agrees(head[0], wide(head[1]) as u32, given, answered),
         ),
         _ => skipped(plane),
     }
@@ -87,7 +94,7 @@ fn take_question(samples: &[u8], plane: Plane, head: &[u8; 32]) -> Turn
     let a = number_at(head, 24) as usize;
     if fill(&mut given, g) {
         if fill(&mut answered, a) {
-            return question(head, samples, plane, &answered[..a]);
+            return question(head, samples, plane, &given[..g], &answered[..a]);
         }
     }
     compared(plane, 0, false)
