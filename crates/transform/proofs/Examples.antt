@@ -6,18 +6,18 @@ use lib.IntN.{pos, negsuc}
 use lib.ListN.{replicate}
 use Rattle.ints.specs.Z.{if_then_else_, clampZ, satZ, floorZ}
 use Rattle.transform.specs.Tables.{dequantCoeff, chromaQuantiserIndex, chromaCoeff}
-use Rattle.transform.specs.Residual.{placed, noLevels, scaled, weighedBy, weighed, rowsOf, columnsOf, rounded, residual}
+use Rattle.transform.specs.Residual.{placed, noLevels, scaled, sumOf, weighed, rowsOf, columnsOf, rounded, residual}
 use Rattle.transform.specs.ChromaDc.{halved, secondary, scaledAt, chromaDc}
 use Rattle.transform.specs.Arrays.{listed}
 
 -- luma level -1 at place 0, quantiser 0: -1 in all sixteen
 pub luma-level : listed (residual (dequantCoeff 0) (pos 0) (placed (negsuc 0 ∷ []) 0)) ≡ replicate 16 (negsuc 0)
-unfolding listed residual rounded columnsOf rowsOf weighed weighedBy scaled placed dequantCoeff floorZ satZ clampZ if_then_else_
+unfolding listed residual rounded columnsOf rowsOf weighed sumOf scaled placed dequantCoeff floorZ satZ clampZ if_then_else_
 luma-level = refl
 
 -- chroma DC levels 1, 0, 0, 0 at quantiser 31: 6 in each block
 pub chroma-level : map (λ dc. residual (chromaCoeff 31) dc noLevels 0 0) (chromaDc (chromaCoeff 31) (pos 1 ∷ pos 0 ∷ pos 0 ∷ pos 0 ∷ []) 0) ≡ replicate 4 (pos 6)
-unfolding chromaDc secondary halved scaledAt residual rounded columnsOf rowsOf weighed weighedBy scaled noLevels chromaCoeff chromaQuantiserIndex dequantCoeff floorZ satZ clampZ if_then_else_
+unfolding chromaDc secondary halved scaledAt residual rounded columnsOf rowsOf weighed sumOf scaled noLevels chromaCoeff chromaQuantiserIndex dequantCoeff floorZ satZ clampZ if_then_else_
 chroma-level = refl
 
 -- half of -3 toward zero is -1
@@ -27,5 +27,5 @@ toward-zero = refl
 
 -- the largest level saturates: 2147483647 at place 0, quantiser 0, takes every sum to the greatest i32, and the residual to 2,048
 pub saturated : listed (residual (dequantCoeff 0) (pos 0) (placed (pos 2147483647 ∷ []) 0)) ≡ replicate 16 (pos 2048)
-unfolding listed residual rounded columnsOf rowsOf weighed weighedBy scaled placed dequantCoeff floorZ satZ clampZ if_then_else_
+unfolding listed residual rounded columnsOf rowsOf weighed sumOf scaled placed dequantCoeff floorZ satZ clampZ if_then_else_
 saturated = refl

@@ -4,20 +4,21 @@ use mathlib.Core.Path.{_≡_, refl, ap, _∙_}
 use mathlib.Core.Bool.{Bool, true, false, cond}
 use mathlib.Core.List.{List, [], _∷_}
 use Prim.Native.Nat.{ℕ, zero, suc, _+_, _*_, _-_, _/_, _%_, _≤_, _<_}
-use native.Mathlib.Nat.{zero-add, zero-mul}
+use native.Mathlib.Nat.{zero-add, zero-mul, le-mul-of-pos-right, mul-le-mul-right}
 use native.Mathlib.Omega.{arith}
+use lib.Dec.{lit<}
 use lib.IntN.{ℤ, pos, negsuc, _+ℤ_}
 use lib.Signed.{ltZ, mag}
 use lib.ListN.{set, getD}
 use Rattle.ints.specs.Z.{if_then_else_, minZ, clampZ, satZ, clip1Z}
 use Rattle.ints.proofs.Fits.{Within, within-clamp, within-lit, clamp-ind}
 use Rattle.ints.proofs.Linear.{z-rules, add-z, min-z, clip1-z, mag-z}
-use Rattle.picture.specs.Painted.{inside, painted}
+use Rattle.picture.specs.Painted.{inside, painted, Inside}
 use Rattle.picture.specs.Picture.{seen}
 use Rattle.picture.specs.Rows.{row, rows}
 use Rattle.picture.proofs.Laws.{more, row-more, row-values, rows-more, rows-other, each-length, each-at, each-is, place}
-use Rattle.transform.specs.Residual.{placed, noLevels, scaled, weighedBy, weighed, rowsOf, columnsOf, rounded, residual}
-use Rattle.transform.specs.Added.{raised, added}
+use Rattle.transform.specs.Residual.{placed, noLevels, scaled, sumOf, weighed, rowsOf, columnsOf, rounded, residual}
+use Rattle.transform.specs.Added.{raised, added, addedFour}
 use Rattle.transform.specs.Arrays.{listed, turned, short, shortened, finished, Short, raisedAt}
 
 -- a turn of a loop that fills an array from place 0 on
@@ -80,7 +81,7 @@ clip-short a z h =
     (λ e f. refl)
 
 -- a number below 4, by cases
-below-4 : (P : ℕ → Type 0) → P 0 → P 1 → P 2 → P 3 → (n : ℕ) → n < 4 → P n
+pub below-4 : (P : ℕ → Type 0) → P 0 → P 1 → P 2 → P 3 → (n : ℕ) → n < 4 → P n
 below-4 P a b c d zero h = a
 below-4 P a b c d (suc zero) h = b
 below-4 P a b c d (suc (suc zero)) h = c
@@ -115,21 +116,24 @@ added-listed plane s x y f e h = ap (λ l. added plane s x y (placed l 0)) e ∙
 short-none : Short []
 short-none = record { small = λ n. omega arith }
 
-short-one : (z : ℤ) {l : List ℤ} → Short l → Short (short z ∷ l)
-unfolding short
-short-one z {l} h = record { small = go }
+short-one : (z : ℤ) {l : List ℤ} → mag z < 4096 → Short l → Short (z ∷ l)
+short-one z {l} k h = record { small = go }
   where
-    go : (n : ℕ) → mag (getD (short z ∷ l) n (pos 0)) < 4096
-    go zero = within-clamp 4096 (negsuc 4095) (pos 4095) z (within-lit _ _ tt) (within-lit _ _ tt) .within
+    go : (n : ℕ) → mag (getD (z ∷ l) n (pos 0)) < 4096
+    go zero = k
     go (suc n) = h .small n
 
+pub short-all : (f : ℕ → ℕ → ℤ) → ((r c : ℕ) → r < 4 → c < 4 → mag (f r c) < 4096) → Short (listed f)
+unfolding listed
+short-all f h = search (short-none, short-one, lit<, tt) depth 40
+
 pub short-listed : (f : ℕ → ℕ → ℤ) → Short (listed (shortened f))
-unfolding listed shortened
-short-listed f = search (short-none, short-one) depth 40
+unfolding shortened short
+short-listed f = short-all (shortened f) (λ r c lr lc. within-clamp 4096 (negsuc 4095) (pos 4095) (f r c) (within-lit _ _ tt) (within-lit _ _ tt) .within)
 
 -- ---- a block with no levels but its DC
 weighed-none : (k : ℕ) → weighed k (pos 0) (pos 0) (pos 0) (pos 0) ≡ pos 0
-unfolding weighed weighedBy satZ clampZ if_then_else_
+unfolding weighed sumOf satZ clampZ if_then_else_
 weighed-none zero = refl
 weighed-none (suc zero) = refl
 weighed-none (suc (suc zero)) = refl
@@ -147,3 +151,20 @@ transformed-none scale =
 pub dc-only : (scale : ℕ) (dc : ℤ) → residual scale dc noLevels ≡ (λ (r c : ℕ). rounded (pos 0) dc)
 unfolding residual noLevels
 dc-only scale dc = λ i r c. rounded (transformed-none scale i r c) dc
+
+-- ---- four blocks in a square of 8 × 8
+-- its rows number no more than the plane has samples
+pub inside-high : {s x y w h size : ℕ} → Inside s x y w h size → y + h ≤ size
+inside-high {s} {x} {y} {w} {h} i = omega (arith, le-mul-of-pos-right (y + h) (i .some), i .down)
+
+pub inside-lower-right : {s x y size size′ : ℕ} → Inside s x y 8 8 size → size′ ≡ size → Inside s (x + 4) (y + 4) 4 4 size′
+inside-lower-right {s} {x} {y} i e =
+    let m : (y + 4 + 4) * s ≤ (y + 8) * s = mul-le-mul-right s (omega arith) in
+    record { some = i .some; across = omega (arith, i .across); down = omega (arith, i .down) }
+
+pub four-added : (f : ℕ → ℕ → ℕ → ℤ) (s x y : ℕ) (p₀ : List ℕ) {p₁ p₂ p₃ p₄ : List ℕ} → p₁ ≡ added p₀ s x y (f 0) → p₂ ≡ added p₁ s (x + 4) y (f 1) → p₃ ≡ added p₂ s x (y + 4) (f 2) → p₄ ≡ added p₃ s (x + 4) (y + 4) (f 3)
+    → p₄ ≡ addedFour p₀ s x y f
+unfolding addedFour
+four-added f s x y p₀ a b c d =
+    d
+    ∙ ap (λ p. added p s (x + 4) (y + 4) (f 3)) (c ∙ ap (λ p. added p s x (y + 4) (f 2)) (b ∙ ap (λ p. added p s (x + 4) y (f 1)) a))

@@ -2,9 +2,10 @@
 -- Assumes nothing.
 use mathlib.Core.List.{List}
 use Prim.Native.Nat.{ℕ, zero, suc, _+_, _*_}
-use lib.IntN.{ℤ, pos, negsuc, _+ℤ_, _*ℤ_}
+use lib.IntN.{ℤ, pos, _+ℤ_, _-ℤ_, _*ℤ_}
 use lib.ListN.{getD}
 use Rattle.ints.specs.Z.{satZ, floorZ}
+use Rattle.transform.specs.Tables.{dequantCoeff, chromaCoeff}
 
 -- the sixteen numbers of l from `at` on, row by row
 unfoldable pub placed : List ℤ → ℕ → ℕ → ℕ → ℤ
@@ -18,16 +19,16 @@ noLevels r c = pos 0
 unfoldable pub scaled : ℕ → (ℕ → ℕ → ℤ) → ℕ → ℕ → ℤ
 scaled scale x r c = satZ (x r c *ℤ pos scale)
 
--- four numbers weighed by a row of the transform's matrix, saturated
-unfoldable pub weighedBy : ℤ → ℤ → ℤ → ℤ → ℤ → ℤ → ℤ → ℤ → ℤ
-weighedBy p q r s a b c d = satZ (p *ℤ a +ℤ q *ℤ b +ℤ r *ℤ c +ℤ s *ℤ d)
+-- four numbers by row k, 0 to 3, of the transform's matrix
+unfoldable pub sumOf : ℕ → ℤ → ℤ → ℤ → ℤ → ℤ
+sumOf zero a b c d = pos 13 *ℤ a +ℤ pos 17 *ℤ b +ℤ pos 13 *ℤ c +ℤ pos 7 *ℤ d
+sumOf (suc zero) a b c d = pos 13 *ℤ a +ℤ pos 7 *ℤ b -ℤ pos 13 *ℤ c -ℤ pos 17 *ℤ d
+sumOf (suc (suc zero)) a b c d = pos 13 *ℤ a -ℤ pos 7 *ℤ b -ℤ pos 13 *ℤ c +ℤ pos 17 *ℤ d
+sumOf (suc (suc (suc k))) a b c d = pos 13 *ℤ a -ℤ pos 17 *ℤ b +ℤ pos 13 *ℤ c -ℤ pos 7 *ℤ d
 
--- by row k, 0 to 3, of the matrix
+-- the same, saturated
 unfoldable pub weighed : ℕ → ℤ → ℤ → ℤ → ℤ → ℤ
-weighed zero = weighedBy (pos 13) (pos 17) (pos 13) (pos 7)
-weighed (suc zero) = weighedBy (pos 13) (pos 7) (negsuc 12) (negsuc 16)
-weighed (suc (suc zero)) = weighedBy (pos 13) (negsuc 6) (negsuc 12) (pos 17)
-weighed (suc (suc (suc k))) = weighedBy (pos 13) (negsuc 16) (pos 13) (negsuc 6)
+weighed k a b c d = satZ (sumOf k a b c d)
 
 -- each row transformed
 unfoldable pub rowsOf : (ℕ → ℕ → ℤ) → ℕ → ℕ → ℤ
@@ -44,3 +45,11 @@ rounded t dc = floorZ (t +ℤ pos 169 *ℤ dc +ℤ pos 524288) 1048576
 -- the residuals of a block of levels: rows, then columns, then rounded
 unfoldable pub residual : ℕ → ℤ → (ℕ → ℕ → ℤ) → ℕ → ℕ → ℤ
 residual scale dc levels r c = rounded (columnsOf (rowsOf (scaled scale levels)) r c) dc
+
+-- of a luma block of sixteen levels from `at` on
+unfoldable pub lumaResidual : ℕ → List ℤ → ℕ → ℕ → ℕ → ℤ
+lumaResidual q levels at = residual (dequantCoeff q) (pos 0) (placed levels at)
+
+-- of a chroma block, with its DC
+unfoldable pub chromaResidual : ℕ → ℤ → List ℤ → ℕ → ℕ → ℕ → ℤ
+chromaResidual q dc levels at = residual (chromaCoeff q) dc (placed levels at)

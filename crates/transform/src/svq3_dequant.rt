@@ -3,9 +3,9 @@ ghost use mathlib.Core.Path.{_≡_};
 ghost use Prim.Native.Nat.{_≤_, _<_, _+_};
 ghost use lib.ListN.{length};
 ghost use Rattle.transform.specs.Tables.{dequantCoeff, chromaQuantiserIndex, chromaCoeff};
-ghost use Rattle.transform.specs.Residual.{placed, scaled, weighedBy, rowsOf, rounded, residual};
+ghost use Rattle.transform.specs.Residual.{placed, scaled, rowsOf, rounded, residual};
 ghost use Rattle.transform.specs.ChromaDc.{halved, secondary, scaledAt, chromaDc};
-ghost use Rattle.transform.specs.Arrays.{listed, turned, weighedRow, short, shortened, finished};
+ghost use Rattle.transform.specs.Arrays.{listed, turned, dot, dotRow, short, shortened, finished};
 
 const DEQUANT_COEFF_TABLE: [u32; 32] = [
     3881,
@@ -124,7 +124,7 @@ fn scale_luma_block_by_quantiser(levels: &[i32], at: usize, scale: u32) -> [i32;
 
 // Four numbers weighed by a row of the transform's matrix.
 fn apply_luma_transform_row(p: i8, q: i8, r: i8, s: i8, a: i32, b: i32, c: i32, d: i32) -> i32
-    ensures { λ v. ⌜ v ≡ weighedBy p q r s a b c d ⌝ }
+    ensures { λ v. ⌜ v ≡ dot p q r s a b c d ⌝ }
 {
     ints::sat_i32(
         (p as i64) * (a as i64)
@@ -137,7 +137,7 @@ fn apply_luma_transform_row(p: i8, q: i8, r: i8, s: i8, a: i32, b: i32, c: i32, 
 // The same of row i of a block.
 fn weigh_row(p: i8, q: i8, r: i8, s: i8, x: &[i32; 16], i: usize) -> i32
     requires { ⌜ i < 4 ⌝ }
-    ensures { λ v. ⌜ v ≡ weighedRow p q r s (now (x .entry)) i ⌝ }
+    ensures { λ v. ⌜ v ≡ dotRow p q r s (now (x .entry)) i ⌝ }
 {
     let a = x[4 * i];
     let b = x[4 * i + 1];

@@ -4,12 +4,12 @@ use mir.Syntax.{w32}
 use Rattle.ints.specs.Z.{satZ}
 use Rattle.ints.proofs.Fits.{signed, back, via}
 use Rattle.ints.proofs.Same.{reads}
-use Rattle.transform.specs.Residual.{weighedBy}
+use Rattle.transform.specs.Arrays.{dot}
 use Rattle.transform.proofs.svq3_dequant.apply_luma_transform_row.Statement.{statement}
 use Rattle.transform.proofs.svq3_dequant.apply_luma_transform_row.Tie as tie
 
 returns : tie.Need-returns
-unfolding weighedBy
+unfolding dot
 returns c =
     let record { p = p; q = q; r = r; s = s; a = a; b = b; c = c′; d = d } = c .before .fits in
     back w32 (c .sat-i32 .ok) (via satZ (c .sat-i32 .ensures) (search reads fits 20000 depth 30))

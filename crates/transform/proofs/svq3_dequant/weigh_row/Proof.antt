@@ -4,13 +4,12 @@ use borrow.Author.Needs.{needs}
 use mir.Syntax.{w32}
 use mir.Facts.{toZ-ofZ}
 use Rattle.ints.proofs.Fits.{back}
-use Rattle.transform.specs.Residual.{weighedBy}
-use Rattle.transform.specs.Arrays.{weighedRow}
+use Rattle.transform.specs.Arrays.{dot, dotRow}
 use Rattle.transform.proofs.svq3_dequant.weigh_row.Statement.{statement}
 use Rattle.transform.proofs.svq3_dequant.weigh_row.Tie as tie
 
 returns : tie.Need-returns
-unfolding weighedRow
+unfolding dotRow
 returns c =
     let s = c .before .before .before .before .before in
     let p = toZ-ofZ (s .fits .p) in
@@ -21,7 +20,7 @@ returns c =
     let b = back w32 (c .before .before .before .b .given) refl in
     let d = back w32 (c .before .before .c .given) refl in
     let e = back w32 (c .before .d .given) refl in
-    back w32 (c .apply-luma-transform-row .ok) (c .apply-luma-transform-row .ensures ∙ (λ i. weighedBy (p i) (q i) (r i) (t i) (a i) (b i) (d i) (e i)))
+    back w32 (c .apply-luma-transform-row .ok) (c .apply-luma-transform-row .ensures ∙ (λ i. dot (p i) (q i) (r i) (t i) (a i) (b i) (d i) (e i)))
 
 pub weigh-row-spec : {M : Type 1} → statement M
 weigh-row-spec =

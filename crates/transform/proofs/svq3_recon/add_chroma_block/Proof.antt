@@ -3,7 +3,7 @@ use mathlib.Core.Path.{_∙_, ap}
 use borrow.Author.Needs.{needs}
 use native.Mathlib.Omega.{arith}
 use mir.Facts.{toZ-ofZ}
-use Rattle.transform.specs.Residual.{placed, residual}
+use Rattle.transform.specs.Residual.{placed, residual, chromaResidual}
 use Rattle.transform.specs.Added.{added}
 use Rattle.transform.proofs.Tables.{chroma-entry}
 use Rattle.transform.proofs.svq3_recon.add_chroma_block.Statement.{statement}
@@ -15,6 +15,7 @@ add-block-requires c κs =
     (s .pre .0, (s .pre .1 .0, omega (arith, c .chroma-coeff .ensures, chroma-entry (s .args .q) (s .pre .1 .1))))
 
 returns : tie.Need-returns
+unfolding chromaResidual
 returns c =
     let s = c .before .before .before .before .before .before in
     let e = c .before .before .before .chroma-coeff .ensures in
