@@ -1,7 +1,8 @@
 # make demo   the main job on an example
 # make test   the gate: the comparison with the published Rust where rustc is at hand, then rt ci
 # make host   a C program that calls the desk library, where cc is at hand
-.PHONY: demo test compare host
+# make bench  the speed beside the published Rust's, where rustc is at hand
+.PHONY: demo test compare host bench
 
 demo:
 	rt check readers
@@ -14,3 +15,6 @@ test: compare
 
 host:
 	tools/host/run.sh
+
+bench:
+	tools/bench/run.sh

@@ -12,7 +12,7 @@ use lib.Signed.{pos-natAbs}
 use lib.ListN.{length, getD, replicate}
 use Rattle.picture.specs.Painted.{Inside, painted}
 use Rattle.picture.specs.Rows.{row}
-use Rattle.picture.proofs.Laws.{more, row-same, painted-same}
+use Rattle.picture.proofs.Laws.{more, row-same, painted-same, painted-values}
 use Rattle.ints.specs.Z.{if_then_else_, clampZ, floorZ, modZ}
 use Rattle.ints.proofs.Fits.{sub-ind, clamp-ind}
 use Rattle.ints.proofs.Linear.{z-rules, add-z, abs-z, mag-z}
@@ -20,7 +20,7 @@ use Rattle.ints.proofs.Laws.{clamp-low, floor-shift}
 use Rattle.compensation.specs.Sample.{nearest, tap, sampleAt, sixths, blockSample}
 use Rattle.compensation.specs.Formula.{along, formula}
 use Rattle.compensation.specs.Block.{Whole}
-use Rattle.compensation.specs.Kernel.{originOf, near, nearFrom, picked, lineAt, windowAt, windowBlock, fourAt, fourRow, fourBlock, extra}
+use Rattle.compensation.specs.Kernel.{originOf, near, nearFrom, picked, pickedAt, lineAt, windowAt, windowBlock, fourAt, fourRow, fourBlock, extra}
 
 -- ---- places before and past a line of n
 module _ (n : ℕ) where
@@ -145,15 +145,17 @@ near-below : (n i : ℕ) → 0 < n → near n i < n
 unfolding near
 near-below n i h = omega arith
 
-module _ (plane : List ℕ) (width bx : ℕ) {columns : List ℕ} (is : columns ≡ row (replicate 17 0) 0 (nearFrom width bx) 17) where
-  pub column-inside : (height line k : ℕ) → Whole width height (length plane) → line < height → k < 17 → line * width + getD columns k 0 < length plane
-  column-inside height line k full lt lk =
-      let m : line * width + width ≤ height * width = more width lt in
-      rw (is, columns-at width bx k lk) (omega (arith, near-below width (bx + k) (full .columns .0), mul-comm height width))
+-- a column of the plane
+pub line-place : {width height size line a : ℕ} → Whole width height size → line < height → a < width → line * width + a < size
+line-place {width} {height} full lt la = omega (arith, full .all, more width lt, mul-comm height width)
 
-  pub picked-tap : (height by r c : ℕ) → c < 17 → picked plane (near height (by + r) * width) columns c ≡ windowAt plane width height bx by r c
-  unfolding picked windowAt lineAt
-  picked-tap height by r c lc = rw (is, columns-at width bx c lc)
+module _ (width bx : ℕ) {columns : List ℕ} (is : columns ≡ row (replicate 17 0) 0 (nearFrom width bx) 17) where
+  pub column-below : 0 < width → (k : ℕ) → k < 17 → getD columns k 0 < width
+  column-below some k h = rw (is, columns-at width bx k h) (near-below width (bx + k) some)
+
+  pub picked-block : (plane : List ℕ) (height by w h : ℕ) (l : List ℕ) → w ≤ 17 → painted w 0 0 w h (pickedAt plane columns width height by) l ≡ painted w 0 0 w h (windowAt plane width height bx by) l
+  unfolding pickedAt picked windowAt lineAt
+  picked-block plane height by w h l le = painted-values w 0 0 w h _ _ l (λ r c lr lc. rw (is, columns-at width bx c (omega arith)))
 
 -- ---- two functions of four taps that agree
 pub four-same : (f g : ℕ → ℕ → ℕ → ℕ → ℕ) (src : List ℕ) (stride from r c : ℕ) → ((s t u v : ℕ) → f s t u v ≡ g s t u v) → fourBlock f src stride from r c ≡ fourBlock g src stride from r c

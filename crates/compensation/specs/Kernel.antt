@@ -66,6 +66,10 @@ nearFrom n i c = near n (i + c)
 unfoldable pub picked : List ℕ → ℕ → List ℕ → ℕ → ℕ
 picked plane line columns c = getD plane (line + getD columns c 0) 0
 
+-- the same, of the line that is r rows on from the place by
+unfoldable pub pickedAt : List ℕ → List ℕ → ℕ → ℕ → ℕ → ℕ → ℕ → ℕ
+pickedAt plane columns width height by r = picked plane (near height (by + r) * width) columns
+
 -- the sample of a line of the plane, c columns on from the place bx
 unfoldable pub lineAt : List ℕ → ℕ → ℕ → ℕ → ℕ → ℕ
 lineAt plane line width bx c = getD plane (line + near width (bx + c)) 0

@@ -5,7 +5,7 @@ ghost use lib.IntN.{_+ℤ_};
 ghost use lib.ListN.{length, getD, replicate};
 ghost use Rattle.picture.specs.Painted.{Inside, painted};
 ghost use Rattle.picture.specs.Rows.{row};
-ghost use Rattle.compensation.specs.Kernel.{originOf, near, nearFrom, picked, windowAt};
+ghost use Rattle.compensation.specs.Kernel.{originOf, near, nearFrom, picked, pickedAt, windowAt};
 ghost use Rattle.compensation.specs.Block.{Whole};
 use ints::clamp_i64;
 
@@ -62,31 +62,30 @@ fn gather_row(
     }
 }
 
-// The w × h taps whose first lies at (bx, by).
+// w taps of each of h rows, the first of them at by.
 fn gather_rows(
     window: &mut [u8],
     plane: &[u8],
+    columns: &[usize; 17],
     width: usize,
     height: usize,
-    bx: usize,
     by: usize,
     w: usize,
     h: usize,
 )
     requires { ⌜ Inside w 0 0 w h (length (now window)) × (w ≤ 17) × (h ≤ 17) ⌝ }
-    requires { ⌜ Whole width height (length (now plane)) × (bx ≤ width + 16) × (by ≤ height + 16) ⌝ }
-    ensures { λ _. ⌜ now (window .exit) ≡ painted w 0 0 w h (windowAt (now (plane .entry)) width height bx by) (now (window .entry)) ⌝ }
+    requires { ⌜ Whole width height (length (now plane)) × (by ≤ height + 16) × ((k : ℕ) → k < 17 → getD (now columns) k 0 < width) ⌝ }
+    ensures { λ _. ⌜ now (window .exit) ≡ painted w 0 0 w h (pickedAt (now (plane .entry)) (now (columns .entry)) width height by) (now (window .entry)) ⌝ }
 {
-    let columns = columns_of(width, bx);
     let mut r = 0;
     while r < h {
         let line = near_of(height, by + r) * width;
-        gather_row(window, plane, &columns, r * w, line, w);
+        gather_row(window, plane, columns, r * w, line, w);
         r += 1;
     }
 }
 
-// The same, with the widths of partitions known to the compiler.
+// The w × h taps whose first lies at (bx, by). The widths that partitions have are told to the compiler: rows of known length need no loop.
 pub fn gather(
     window: &mut [u8],
     plane: &[u8],
@@ -101,13 +100,14 @@ pub fn gather(
     requires { ⌜ Whole width height (length (now plane)) × (bx ≤ width + 16) × (by ≤ height + 16) ⌝ }
     ensures { λ _. ⌜ now (window .exit) ≡ painted w 0 0 w h (windowAt (now (plane .entry)) width height bx by) (now (window .entry)) ⌝ }
 {
+    let columns = columns_of(width, bx);
     if w == 17 {
-        gather_rows(window, plane, width, height, bx, by, 17, h);
+        gather_rows(window, plane, &columns, width, height, by, 17, h);
     } else if w == 9 {
-        gather_rows(window, plane, width, height, bx, by, 9, h);
+        gather_rows(window, plane, &columns, width, height, by, 9, h);
     } else if w == 5 {
-        gather_rows(window, plane, width, height, bx, by, 5, h);
+        gather_rows(window, plane, &columns, width, height, by, 5, h);
     } else {
-        gather_rows(window, plane, width, height, bx, by, w, h);
+        gather_rows(window, plane, &columns, width, height, by, w, h);
     }
 }
