@@ -1,7 +1,7 @@
 -- Laws of moving a component: a held predictor is small, a stored component is an i32, and where nothing was clipped the difference is determined.
 -- Assumes nothing.
 use mathlib.Core.Path.{_≡_, refl, sym, ap, _∙_}
-use mathlib.Core.Bool.{Bool, true, false, _||_, true≢false}
+use mathlib.Core.Bool.{false}
 use Prim.Native.Nat.{ℕ, _*_, _/_, _^_, _≤_, _<_}
 use native.Mathlib.Nat.{mul-div-right}
 use native.Mathlib.Omega.{arith}
@@ -10,10 +10,11 @@ use lib.Signed.{mag}
 use mir.Syntax.{w32}
 use mir.Facts.{toZ-ofZ}
 use Rattle.ints.proofs.Fits.{read}
-use Rattle.ints.specs.Z.{satZ, overZ, towardZero}
+use Rattle.ints.specs.Z.{overZ, towardZero}
 use Rattle.ints.proofs.Linear.{up, down, z-rules, abs-z, times-z, scaled-z, quot-z}
 use Rattle.ints.proofs.Laws.{sat-fits, over-sat, add-diff}
 use Rattle.ints.proofs.Same.{reads}
+use Rattle.predict.proofs.Tests.{neither}
 use Rattle.predict.specs.Units.{convertPredictor, storedScale, summed, scaled, storedPart, clippedPart}
 use Rattle.predict.specs.Difference.{differenceOf}
 use Rattle.vectors.specs.declared.svq3_mb.Svq3MvPrecision.{Svq3MvPrecision}
@@ -54,10 +55,6 @@ multiple-back k z h =
     omega (arith, z-rules)
 
 -- ---- where nothing was clipped
-neither : (s t : Bool) → (s || t) ≡ false → (s ≡ false) × (t ≡ false)
-neither true t e = absurd (true≢false e)
-neither false t e = (refl, e)
-
 module _ (precision : Svq3MvPrecision) (p d : ℤ) (e : clippedPart precision p d ≡ false) where
   -- the component is the exact product of the exact sum
   pub stored-exact : storedPart precision p d ≡ (convertPredictor precision p +ℤ d) *ℤ pos (storedScale precision)

@@ -1,10 +1,10 @@
 -- Laws of storing a partition: the numbers of a cell, what a cell shows afterwards, lengths.
 -- Assumes nothing.
-use mathlib.Core.Path.{_≡_, refl, sym, ap, ap₂, subst, _∙_}
+use mathlib.Core.Path.{_≡_, refl, sym, ap, _∙_}
 use mathlib.Core.Bool.{Bool, true, false, cond, _&&_, true≢false}
 use mathlib.Core.List.{List}
 use Prim.Native.Nat.{ℕ, _+_, _-_, _*_, _/_, _%_, _≤_, _<_}
-use native.Mathlib.Nat.{add-assoc, add-zero, mul-le-mul-right, le-trans}
+use native.Mathlib.Nat.{add-assoc, add-zero}
 use native.Mathlib.Omega.{arith}
 use lib.Arith.{digits-div, digits-mod}
 use borrow.Author.Tests.{eq-eqb, ne-eqb, ltb-true, lt-ltb}
@@ -17,9 +17,10 @@ use lib.ListN.{length, getD, set}
 use Rattle.ints.specs.Z.{if_then_else_}
 use Rattle.ints.proofs.Fits.{read, if-yes, if-no}
 use Rattle.picture.specs.Rows.{row}
-use Rattle.picture.specs.Painted.{within, inside, painted, Inside}
-use Rattle.picture.specs.Picture.{Within, cellCount, always, filled}
-use Rattle.picture.proofs.Laws.{more, row-more, each-at, painted-length, within-true, within-in, macroblock-inside}
+use Rattle.picture.specs.Painted.{within, inside, painted}
+use Rattle.picture.specs.Picture.{cellCount, always, filled}
+use Rattle.picture.proofs.Laws.{more, row-more, each-at, painted-length, within-true, within-in}
+use Rattle.predict.proofs.Tests.{and-left, and-right, same-test}
 use Rattle.predict.specs.Predict.{Field, vector, cellAt, nearAt}
 use Rattle.predict.specs.Stored.{pairOf, storedVectors, storedMarks, storedField}
 use Rattle.predict.specs.declared.svq3_frame.Near.{Near}
@@ -46,13 +47,6 @@ pair-more l₀ at vx vy k e =
 pub stored-read : {l : List ℤ} (mv : List ℤ) (s x y w h : ℕ) {vx vy : ℤ} → SFits w32 vx → SFits w32 vy → l ≡ storedVectors mv s x y w h (read w32 vx) (read w32 vy) → l ≡ storedVectors mv s x y w h vx vy
 stored-read mv s x y w h f g e = e ∙ λ i. storedVectors mv s x y w h (toZ-ofZ f i) (toZ-ofZ g i)
 
--- ---- the cells of a partition lie in the picture
-pub cells-inside : {cols rows column row wide high size : ℕ} (cx cy : ℕ) → Within cols rows column row → cx + wide ≤ 4 → cy + high ≤ 4 → size ≡ cellCount cols rows → Inside (4 * cols) (4 * column + cx) (4 * row + cy) wide high size
-cells-inside {cols} {rows} {column} {row} {wide} {high} {size} cx cy g a b e =
-    let m = macroblock-inside 4 {cols = cols} {rows = rows} {column = column} {row = row} (omega arith) (g .across) (g .down) in
-    let l : 4 * row + cy + high ≤ 4 * row + 4 = omega arith in
-    record { some = m .some; across = omega arith; down = rw e (le-trans (mul-le-mul-right (4 * cols) l) (m .down)) }
-
 -- ---- lengths are kept
 pub vectors-length : (mv : List ℤ) (s x y w h : ℕ) (vx vy : ℤ) → length (storedVectors mv s x y w h vx vy) ≡ length mv
 unfolding storedVectors
@@ -66,19 +60,6 @@ marks-length marks s x y w h = painted-length s x y w h (always 1) marks
 painted-at : {A : Type 0} (s x y w h : ℕ) (v : ℕ → ℕ → A) (l : List A) (i : ℕ) (d : A) → i < length l → getD (painted s x y w h v l) i d ≡ cond (inside s x y w h i) (v (i / s - y) (i % s - x)) (getD l i d)
 unfolding painted
 painted-at s x y w h v l i d lt = each-at _ l i d lt
-
-and-left : (s t : Bool) → (s && t) ≡ true → s ≡ true
-and-left true t e = refl
-and-left false t e = e
-
-and-right : (s t : Bool) → (s && t) ≡ true → t ≡ true
-and-right true t e = e
-and-right false t e = absurd (true≢false (sym e))
-
-pub same-test : (a b : Bool) → (a ≡ true → b ≡ true) → (b ≡ true → a ≡ true) → a ≡ b
-same-test true b f g = sym (f refl)
-same-test false true f g = g refl
-same-test false false f g = refl
 
 -- by its mark and its numbers
 abbrev pub shown : ℕ → ℤ → ℤ → Near

@@ -4,13 +4,13 @@ use mathlib.Core.Path.{_≡_, refl, sym, ap, ap₂, _∙_}
 use mathlib.Core.Bool.{Bool, true, false, cond, _||_, _&&_, true≢false}
 use mathlib.Core.Logic.{_≢_}
 use mathlib.Core.List.{List}
-use Prim.Native.Nat.{ℕ, zero, suc, _+_, _-_, _*_, _/_, _≤_, _<_}
+use Prim.Native.Nat.{ℕ, zero, suc, _+_, _-_, _*_, _≤_, _<_}
 use native.Mathlib.Nat.{suc-mul, add-assoc, add-comm}
 use native.Mathlib.Numerals.{sub-one, one-add}
 use native.Mathlib.Omega.{arith}
 use borrow.Author.Tests.{ne-eqb, eqb-false, ltb-true, ltb-false, lt-ltb, le-ltb}
 use lib.Dec.{eqb, ltb}
-use lib.IntN.{ℤ, pos, natAbs}
+use lib.IntN.{ℤ, pos}
 use lib.ListN.{length, getD, set, length-set}
 use lib.Seq.{getD-set-same, getD-set-other}
 use Rattle.ints.specs.Z.{if_then_else_}
@@ -18,23 +18,16 @@ use Rattle.ints.proofs.Fits.{if-yes, if-no}
 use Rattle.picture.specs.Painted.{within}
 use Rattle.picture.specs.Picture.{Within}
 use Rattle.picture.proofs.Laws.{within-true, within-in}
-use Rattle.predict.specs.Predict.{Field, fieldOf, vector, cellAt, nearAt, leftOf, aboveOf, aboveLeftOf, orElse, combined, predicted, predictor}
-use Rattle.vectors.specs.Modes.{partitionWidth, partitionHeight, numMotionVectors, offsetX, offsetY}
+use Rattle.predict.specs.Predict.{Field, fieldOf, vector, cellAt, nearAt, leftOf, aboveOf, aboveLeftOf, orElse, combined, predicted}
 use Rattle.predict.specs.Stored.{storedVectors, storedMarks, storedField}
-use Rattle.vectors.proofs.Partitions.{cut, inside-units}
-use Rattle.predict.proofs.Predictors.{held-size}
-use Rattle.predict.proofs.Storing.{shown, same-test, vectors-length, marks-length, stored-cell, FieldSized, near-stored}
-use Rattle.predict.specs.Window.{Window, Seen, Part}
-use Rattle.predict.specs.declared.svq3_frame.Near.{Near}
+use Rattle.predict.proofs.Tests.{neither, same-test}
+use Rattle.predict.proofs.Storing.{shown, vectors-length, marks-length, stored-cell, FieldSized, near-stored}
+use Rattle.predict.specs.Window.{Seen, Part}
 use Rattle.predict.specs.declared.svq3_frame.Near.the-variants.{Missing, Here}
 
 -- ---- off the picture, as the code tests it
 abbrev pub off : ℕ → ℕ → ℕ → Bool
 off cols x y = (eqb x 0 || eqb y 0) || ltb (4 * cols) x
-
-neither : (s t : Bool) → (s || t) ≡ false → (s ≡ false) × (t ≡ false)
-neither true t e = absurd (true≢false e)
-neither false t e = (refl, e)
 
 pub on : (cols x y : ℕ) → off cols x y ≡ false → (1 ≤ x) × (1 ≤ y) × (x ≤ 4 * cols)
 on cols x y e =
@@ -171,17 +164,3 @@ seen-stored {f} {column} {row} {cx} {cy} {wide} {high} {mv} {marks} vx vy s g p 
       let by′ = ap (λ n. within n high (4 * row + r)) (add-assoc (4 * row) cy 1) ∙ within-shift (4 * row) (cy + 1) high r in
       near ∙ sym (far ∙ λ i. cond (bx i && by′ i) (Here (vector vx vy)) (sym (e .shows c r lc lr) i));
 }
-
--- ---- for the loop over the partitions of a macroblock
--- a partition of a mode, in cells
-pub part-of : (mode i : ℕ) → mode ≤ 7 → i < numMotionVectors mode → Part (offsetX mode i / 4) (offsetY mode i / 4) (partitionWidth mode / 4) (partitionHeight mode / 4)
-part-of mode i k l = let h = inside-units 2 mode i (omega arith) k l in record { across = h .0; down = h .1; high-some = cut 2 mode (omega arith) k .high }
-
--- its predictor is small enough to be moved
-pub predictor-small : (f : Field) {column row wide high : ℕ} (cx cy : ℕ) → Within (f .cols) (f .rows) column row → Part cx cy wide high
-    → (natAbs (predictor f (4 * column + cx) (4 * row + cy) wide high .x .0) ≤ 393216) × (natAbs (predictor f (4 * column + cx) (4 * row + cy) wide high .y .0) ≤ 393216)
-unfolding predictor
-predictor-small f {column} {row} {wide} {high} cx cy g p = (
-  held-size (16 * f .cols) (4 * (4 * column + cx)) (4 * wide) _ (omega (arith, g .across, p .across)) (omega (arith, g .wide)),
-  held-size (16 * f .rows) (4 * (4 * row + cy)) (4 * high) _ (omega (arith, g .down, p .down)) (omega (arith, g .high)),
-)

@@ -62,7 +62,7 @@ orElse (Here v) d = Here v
 
 -- ---- the predictor
 
--- a missing one counts as 0
+-- its vector, 0 where it is missing
 abbrev pub vectorOf : Near → Vector
 vectorOf Missing = vector (pos 0) (pos 0)
 vectorOf (Here v) = v
@@ -71,12 +71,12 @@ vectorOf (Here v) = v
 unfoldable pub medianOf : Vector → Vector → Vector → Vector
 medianOf a b c = vector (medianZ (a .x .0) (b .x .0) (c .x .0)) (medianZ (a .y .0) (b .y .0) (c .y .0))
 
--- how many it is
+-- 1 where there is a vector
 abbrev pub present : Near → ℕ
 present Missing = 0
 present (Here v) = 1
 
--- none: 0; one: that one; more: the median
+-- none: 0; one: that one; more: the median, missing ones as 0
 unfoldable pub combined : Near → Near → Near → Vector
 combined a b c =
     if ltb (present a + present b + present c) 2

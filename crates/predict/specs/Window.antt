@@ -8,7 +8,7 @@ use lib.IntN.{ℤ}
 use lib.ListN.{length}
 use Rattle.predict.specs.Predict.{Field, cellAt, aboveLeftOf}
 
--- its vectors and marks
+-- two numbers and a mark for each cell
 pub record Window (mv : List ℤ) (marks : List ℕ) : Type 0 where
   pub numbers : length mv ≡ 60
   pub cells : length marks ≡ 30

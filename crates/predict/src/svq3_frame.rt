@@ -43,7 +43,7 @@ pub fn or_else(c: Near, d: Near) -> Near
     }
 }
 
-// A missing one counts as 0.
+// A neighbour's vector, 0 where it is missing.
 fn vector_of(a: Near) -> Vector
     ensures { λ r. ⌜ r ≡ vectorOf a ⌝ }
 {
@@ -56,6 +56,7 @@ fn vector_of(a: Near) -> Vector
     }
 }
 
+// 1 where there is a vector.
 fn present(a: Near) -> u32
     ensures { λ r. ⌜ r ≡ present a ⌝ }
 {
@@ -65,6 +66,7 @@ fn present(a: Near) -> u32
     }
 }
 
+// The median of each component.
 fn median_of(a: Vector, b: Vector, c: Vector) -> Vector
     ensures { λ r. ⌜ r ≡ medianOf a b c ⌝ }
 {
@@ -94,6 +96,7 @@ pub fn held_in(side: usize, place: usize, span: usize, p: Sixths) -> Sixths
     Sixths((clamp_i64(at + (p.0 as i64), 0, most) - at) as i32)
 }
 
+// v / 6, rounded.
 fn round_to_sixths(v: i32) -> i32
     requires { ⌜ natAbs v ≤ 786432 ⌝ }
     ensures { λ r. ⌜ r ≡ roundToSixths v ⌝ }
@@ -214,7 +217,7 @@ pub fn store_cells(
     fill(marks, stride, x, y, wide, high, 1);
 }
 
-// The same in a picture of `cols` macroblocks a row.
+// The vector, marked 1, to the cells of a partition, in a picture of `cols` macroblocks a row.
 pub fn store_partition_mv(
     mv: &mut [i32],
     marks: &mut [u8],

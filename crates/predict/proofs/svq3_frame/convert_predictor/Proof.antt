@@ -1,6 +1,4 @@
 -- `predict::svq3_frame::convert_predictor` answers `convertPredictor`, by the precision.
-use mathlib.Core.Path.{sym, ap, _∙_}
-use lib.IntN.{ℤ}
 use mir.Syntax.{w32}
 use borrow.Author.Needs.{needs}
 use Rattle.ints.proofs.Fits.{signed, back, via}

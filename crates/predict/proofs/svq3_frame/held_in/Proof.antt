@@ -1,8 +1,8 @@
 -- `predict::svq3_frame::held_in` answers `heldIn`: everything fits 64 bits, and what is held is small.
 use mathlib.Core.Path.{_≡_, sym, ap, ap₂, subst, _∙_}
-use Prim.Native.Nat.{_+_, _-_, _*_, _^_, _<_, _≤_}
+use Prim.Native.Nat.{_-_, _*_, _^_, _<_, _≤_}
 use native.Mathlib.Omega.{arith}
-use lib.IntN.{ℤ, pos, natAbs, _+ℤ_, _-ℤ_, _*ℤ_}
+use lib.IntN.{ℤ, pos, natAbs, _-ℤ_, _*ℤ_}
 use lib.Signed.{mag}
 use mir.Syntax.{w32, w64}
 use mir.Val.{SFits, toZ}
@@ -11,13 +11,9 @@ use Rattle.ints.specs.Z.{clampZ}
 use Rattle.ints.proofs.Fits.{read, signed, back}
 use Rattle.ints.proofs.Same.{reads}
 use Rattle.predict.specs.Predict.{heldIn}
-use Rattle.predict.proofs.Moves.{field-read}
 use Rattle.predict.proofs.Predictors.{sixfold, shifted, held-size}
 use Rattle.predict.proofs.svq3_frame.held_in.Statement.{statement}
 use Rattle.predict.proofs.svq3_frame.held_in.Tie as tie
-use Rattle.predict.proofs.svq3_frame.held_in.Reads as reads
-use Rattle.predict.proofs.svq3_frame.held_in.Lts as lts
-use Rattle.ints.proofs.clamp_i64.Reads as clamp-i64-reads
 
 mul-at : tie.Need-mul-at
 mul-at c = let h : c .args .place < 65537 = omega arith in search signed depth 20

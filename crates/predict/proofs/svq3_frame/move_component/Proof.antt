@@ -1,8 +1,7 @@
 -- `predict::svq3_frame::move_component` answers `storedPart` and `clippedPart`: the sum and then the product, each held in i32.
-use mathlib.Core.Path.{_≡_, ap, ap₂, _∙_}
+use mathlib.Core.Path.{ap, ap₂, _∙_}
 use mathlib.Core.Bool.{_||_}
 use lib.IntN.{ℤ, pos, _+ℤ_, _*ℤ_}
-use mir.Syntax.{w32}
 use borrow.Author.Needs.{needs}
 use Rattle.ints.specs.Z.{satZ, overZ}
 use Rattle.ints.proofs.Laws.{value-read, over-of}

@@ -1,12 +1,11 @@
 -- `predict::svq3_frame::stored` answers the saturated product, and whether it had to saturate.
-use mathlib.Core.Path.{_≡_, ap, ap₂, _∙_}
-use lib.IntN.{ℤ, pos, _*ℤ_}
+use mathlib.Core.Path.{ap, ap₂, _∙_}
+use lib.IntN.{_*ℤ_}
 use mir.Syntax.{w32}
 use borrow.Author.Needs.{needs}
 use Rattle.ints.specs.Z.{satZ, overZ}
 use Rattle.ints.proofs.Fits.{back}
 use Rattle.ints.proofs.Laws.{value-read, over-of}
-use Rattle.predict.specs.Units.{storedScale}
 use Rattle.predict.proofs.Moves.{field-read}
 use Rattle.predict.proofs.svq3_frame.stored.Statement.{statement}
 use Rattle.predict.proofs.svq3_frame.stored.Tie as tie

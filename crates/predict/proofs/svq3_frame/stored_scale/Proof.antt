@@ -1,8 +1,5 @@
 -- `predict::svq3_frame::stored_scale` answers `storedScale`, by the precision.
-use mathlib.Core.Path.{sym, ap}
-use lib.IntN.{pos}
 use borrow.Author.Needs.{needs}
-use Rattle.predict.specs.Units.{storedScale}
 use Rattle.predict.proofs.svq3_frame.stored_scale.Statement.{statement}
 use Rattle.predict.proofs.svq3_frame.stored_scale.Tie as tie
 

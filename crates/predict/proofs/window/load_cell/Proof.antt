@@ -1,8 +1,8 @@
 -- `predict::window::load_cell` shows the cell, or none off the picture, and leaves the other cells.
-use mathlib.Core.Path.{_≡_, refl, sym, ap, _∙_}
+use mathlib.Core.Path.{sym, _∙_}
 use Prim.Native.Nat.{_+_, _-_, _*_, _<_, _≤_}
 use native.Mathlib.Omega.{arith}
-use lib.IntN.{ℤ, pos}
+use lib.IntN.{pos}
 use lib.ListN.{length, getD, length-set}
 use borrow.Author.Needs.{needs}
 use Rattle.predict.specs.Predict.{cellAt}
@@ -11,8 +11,6 @@ use Rattle.predict.proofs.Storing.{shown}
 use Rattle.predict.proofs.Windows.{on, on-place, off-missing, on-shows, no-vector, no-vector-other, loaded, loaded-other}
 use Rattle.predict.proofs.window.load_cell.Statement.{statement}
 use Rattle.predict.proofs.window.load_cell.Tie as tie
-use Rattle.predict.proofs.window.load_cell.Reads as reads
-use Rattle.predict.proofs.window.load_cell.Lts as lts
 
 -- off the picture
 returns : tie.Need-returns

@@ -3,16 +3,12 @@ use mathlib.Core.Path.{_≡_, _∙_}
 use Prim.Native.Nat.{ℕ, _+_, _-_, _*_, _^_, _<_, _≤_}
 use native.Mathlib.Nat.{mul-le-mul-right, le-trans}
 use native.Mathlib.Omega.{arith}
-use lib.ListN.{length}
 use borrow.Author.Count.{below-more}
 use Rattle.picture.proofs.Laws.{inside-row}
 use Rattle.predict.specs.Predict.{fieldOf, cellAt, aboveLeftOf}
-use Rattle.predict.specs.Window.{Window, Seen}
+use Rattle.predict.specs.Window.{Window}
 use Rattle.predict.proofs.window.load_neighbours.Statement.{statement}
 use Rattle.predict.proofs.window.load_neighbours.Tie as tie
-use Rattle.predict.proofs.window.load_neighbours.Reads as reads
-use Rattle.predict.proofs.window.load_neighbours.Lts as lts
-use Rattle.predict.proofs.window.load_row.Reads as load-row-reads
 
 abbrev Inv-loop : tie.InvT-loop
 Inv-loop near₀ marked₀ mv marks cols column row r₀ near marked r =
@@ -40,7 +36,6 @@ load-row-requires c κs =
 loop-again : tie.Need-loop-again Inv-loop μ-loop
 loop-again c =
     let l = c .before .before .before .before .loop in
-    let a = c .before .before .before .before .before .before .args in
     let e = c .load-row .ensures in (
       omega arith,
       e .0,

@@ -2,15 +2,11 @@
 use mathlib.Core.Path.{_≡_, refl, _∙_}
 use Prim.Native.Nat.{ℕ, _+_, _-_, _*_, _<_, _≤_}
 use native.Mathlib.Omega.{arith}
-use borrow.Author.Needs.{needs}
 use borrow.Author.Count.{below-none, below-more}
 use Rattle.predict.specs.Predict.{fieldOf, cellAt, aboveLeftOf}
 use Rattle.predict.specs.Window.{Window}
 use Rattle.predict.proofs.window.load_row.Statement.{statement}
 use Rattle.predict.proofs.window.load_row.Tie as tie
-use Rattle.predict.proofs.window.load_row.Reads as reads
-use Rattle.predict.proofs.window.load_row.Lts as lts
-use Rattle.predict.proofs.window.load_cell.Reads as load-cell-reads
 
 abbrev Inv-loop : tie.InvT-loop
 Inv-loop near₀ marked₀ mv marks cols column y at c₀ near marked c =

@@ -1,10 +1,9 @@
 -- `predict::window::predict_mv` answers `predictor` of every field that the window shows.
-use mathlib.Core.Path.{_≡_, sym, _∙_}
+use mathlib.Core.Path.{sym, _∙_}
 use Prim.Native.Nat.{_+_, _*_}
 use native.Mathlib.Omega.{arith}
-use lib.IntN.{ℤ}
 use borrow.Author.Needs.{needs}
-use Rattle.predict.specs.Predict.{vector, orElse, combined, predicted, heldIn, predictor}
+use Rattle.predict.specs.Predict.{vector, orElse, combined, heldIn, predictor}
 use Rattle.predict.proofs.Windows.{seen-predicted}
 use Rattle.predict.proofs.window.predict_mv.Statement.{statement}
 use Rattle.predict.proofs.window.predict_mv.Tie as tie

@@ -1,0 +1,21 @@
+-- Two tests joined, taken apart, and two that agree.
+-- Assumes nothing.
+use mathlib.Core.Path.{_≡_, refl, sym}
+use mathlib.Core.Bool.{Bool, true, false, _||_, _&&_, true≢false}
+
+pub neither : (s t : Bool) → (s || t) ≡ false → (s ≡ false) × (t ≡ false)
+neither true t e = absurd (true≢false e)
+neither false t e = (refl, e)
+
+pub and-left : (s t : Bool) → (s && t) ≡ true → s ≡ true
+and-left true t e = refl
+and-left false t e = e
+
+pub and-right : (s t : Bool) → (s && t) ≡ true → t ≡ true
+and-right true t e = e
+and-right false t e = absurd (true≢false (sym e))
+
+pub same-test : (a b : Bool) → (a ≡ true → b ≡ true) → (b ≡ true → a ≡ true) → a ≡ b
+same-test true b f g = sym (f refl)
+same-test false true f g = g refl
+same-test false false f g = refl
