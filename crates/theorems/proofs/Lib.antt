@@ -3,3 +3,4 @@ pub mod Traces
 pub mod Paths
 pub mod UniqueReading
 pub mod ReplayOfRun
+pub mod SixteenCases
