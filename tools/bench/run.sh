@@ -6,8 +6,9 @@ here=$(cd "$(dirname "$0")" && pwd)
 root=$(cd "$here/../.." && pwd)
 out=$root/target/bench
 
-"$root/tools/reference/build.sh"
 published=$root/target/reference/reference.lib/libpublished.rlib
+rm -f "$published"
+"$root/tools/reference/build.sh"
 [ -f "$published" ] || exit 0
 if [ "$(uname -m)" != x86_64 ]; then
     echo "bench skipped: the library is for x86-64"

@@ -1,15 +1,20 @@
--- A compensated sample lies between the least and the greatest of its four taps, at every phase; whole samples are the taps themselves.
+-- A compensated sample lies between the least and the greatest of its four taps, at every phase; whole samples are the taps themselves; an accepted block is made of such samples.
 -- Assumes nothing.
 use mathlib.Core.Path.{_≡_, refl}
 use mathlib.Core.Bool.{Bool, true, false, _&&_}
 use mathlib.Core.List.{List}
-use Prim.Native.Nat.{ℕ, _+_, _/_, _≤_, min, max}
+use Prim.Native.Nat.{ℕ, _+_, _*_, _/_, _≤_, _<_, min, max}
+use native.Mathlib.Nat.{zero-add, add-zero}
 use native.Mathlib.Omega.{arith}
 use lib.Dec.{eqb, ltb}
 use lib.IntN.{ℤ, pos, _+ℤ_}
+use lib.ListN.{length, getD}
+use Rattle.picture.proofs.Laws.{painted-same}
 use Rattle.ints.specs.Z.{if_then_else_, floorZ, modZ}
 use Rattle.compensation.specs.Formula.{half, third, along, corner, third2d, formula}
-use Rattle.compensation.specs.Sample.{tap, sampleAt, sixths, blockSample}
+use Rattle.compensation.specs.Sample.{tap, sampleAt, blockSample}
+use Rattle.compensation.specs.Block.{sidesFit, blockOut}
+use Rattle.compensation.proofs.Sides.{spans, block-inside}
 
 pub record Between (lo hi v : ℕ) : Type 0 where
   pub low : lo ≤ v
@@ -74,3 +79,15 @@ sample-taps plane width height p q = formula-taps (modZ p 6) (modZ q 6) _ _ _ _
 pub formula-none : (a b c d : ℕ) → formula 0 0 a b c d ≡ a
 unfolding formula along if_then_else_
 formula-none a b c d = refl
+
+-- ---- what an accepted call leaves: sample c of row r, and what a refused one leaves
+module _ (out plane : List ℕ) (width height w h : ℕ) (x y vx vy : ℤ) where
+  pub block-at : sidesFit 65536 width height (length plane) ≡ true → sidesFit 16 w h (length out) ≡ true → (r c : ℕ) → r < h → c < w → getD (blockOut out plane width height x y w h vx vy) (r * w + c) 0 ≡ blockSample plane width height x y vx vy r c
+  unfolding blockOut if_then_else_
+  block-at p s r c lr lc =
+      let q = spans w h (length out) s in
+      rw (p, s) (simp (zero-add, add-zero) at (painted-same (blockSample plane width height x y vx vy) out r c 0 (block-inside (q .0) (q .1)) lr lc))
+
+  pub block-refused : (sidesFit 65536 width height (length plane) && sidesFit 16 w h (length out)) ≡ false → blockOut out plane width height x y w h vx vy ≡ out
+  unfolding blockOut if_then_else_
+  block-refused e = rw e
