@@ -29,7 +29,7 @@ pub used-most : (mode : ℕ) → mode ≤ 7 → 2 * numMotionVectors mode ≤ 32
 unfolding rightUsed numMotionVectors
 used-most mode h = leb→le (2 * numMotionVectors mode) 32 (at rightUsed 8 tt mode (omega arith))
 
-length-noVectors : length noVectors ≡ 32
+pub length-noVectors : length noVectors ≡ 32
 unfolding noVectors
 length-noVectors = refl
 

@@ -118,7 +118,7 @@ module _ (r : Record) (few : r .head .mode ≤ 7) where
       }
 
 -- ---- column, row and mode, read before one is judged
-all-three : (a b c : Bool) → (a && b && c) ≡ true → (a ≡ true) × (b ≡ true) × (c ≡ true)
+pub all-three : (a b c : Bool) → (a && b && c) ≡ true → (a ≡ true) × (b ≡ true) × (c ≡ true)
 all-three true true c e = (refl, refl, e)
 all-three true false c e = not-both e refl
 all-three false b c e = not-both e refl

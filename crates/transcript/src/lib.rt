@@ -1,2 +1,3 @@
 // Records as a transcript has them: written to bytes and read back.
+pub mod parse;
 pub mod write;

@@ -4,22 +4,34 @@ use mathlib.Core.Path.{_≡_, refl, ap, _∙_}
 use mathlib.Core.Bool.{Bool, true, false, cond}
 use mathlib.Core.List.{List, [], _∷_}
 use Prim.Native.Nat.{ℕ, zero, suc, _+_, _*_, _-_, _/_, _%_, _≤_, _<_}
-use native.Mathlib.Nat.{zero-add, zero-mul, le-mul-of-pos-right, mul-le-mul-right}
+use native.Mathlib.Nat.{zero-add, zero-mul}
 use native.Mathlib.Omega.{arith}
 use lib.Dec.{lit<}
-use lib.IntN.{ℤ, pos, negsuc, _+ℤ_}
+use lib.IntN.{ℤ, pos, negsuc, negℤ, _+ℤ_, _*ℤ_}
 use lib.Signed.{ltZ, mag}
 use lib.ListN.{set, getD}
 use Rattle.ints.specs.Z.{if_then_else_, minZ, clampZ, satZ, clip1Z}
 use Rattle.ints.proofs.Fits.{Within, within-clamp, within-lit, clamp-ind}
-use Rattle.ints.proofs.Linear.{z-rules, add-z, min-z, clip1-z, mag-z}
-use Rattle.picture.specs.Painted.{inside, painted, Inside}
+use Rattle.ints.proofs.Linear.{z-rules, add-z, neg-z, min-z, clip1-z, mag-z}
+use Rattle.picture.specs.Painted.{inside, painted}
 use Rattle.picture.specs.Picture.{seen}
 use Rattle.picture.specs.Rows.{row, rows}
 use Rattle.picture.proofs.Laws.{more, row-more, row-values, rows-more, rows-other, each-length, each-at, each-is, place}
 use Rattle.transform.specs.Residual.{placed, noLevels, scaled, sumOf, weighed, rowsOf, columnsOf, rounded, residual}
-use Rattle.transform.specs.Added.{raised, added, addedFour}
-use Rattle.transform.specs.Arrays.{listed, turned, short, shortened, finished, Short, raisedAt}
+use Rattle.transform.specs.Added.{raised, added}
+use Rattle.transform.specs.Arrays.{listed, turned, dot, short, shortened, finished, Short, raisedAt}
+
+-- ---- the matrix, by coefficients
+-- a negative one
+minus : (n : ℕ) (z : ℤ) → negsuc n *ℤ z ≡ negℤ (pos (suc n) *ℤ z)
+minus n (pos a) = refl
+minus n (negsuc a) = omega (arith, z-rules, neg-z (negℤ (pos (suc n * suc a))), neg-z (pos (suc n * suc a)))
+
+-- by the coefficients of each row of the matrix
+pub weighed-dot : (a b c d : ℤ) → (dot (pos 13) (pos 17) (pos 13) (pos 7) a b c d ≡ weighed 0 a b c d) × (dot (pos 13) (pos 7) (negsuc 12) (negsuc 16) a b c d ≡ weighed 1 a b c d)
+    × (dot (pos 13) (negsuc 6) (negsuc 12) (pos 17) a b c d ≡ weighed 2 a b c d) × (dot (pos 13) (negsuc 16) (pos 13) (negsuc 6) a b c d ≡ weighed 3 a b c d)
+unfolding dot weighed sumOf
+weighed-dot a b c d = (refl, rw (minus 12 c, minus 16 d) refl, rw (minus 6 b, minus 12 c) refl, rw (minus 16 b, minus 6 d) refl)
 
 -- a turn of a loop that fills an array from place 0 on
 pub fill-more : {A : Type 0} {l : List A} (l₀ : List A) (v : ℕ → A) (n : ℕ) {x : A} → l ≡ row l₀ 0 v n → x ≡ v n → set l n x ≡ row l₀ 0 v (n + 1)
@@ -151,20 +163,3 @@ transformed-none scale =
 pub dc-only : (scale : ℕ) (dc : ℤ) → residual scale dc noLevels ≡ (λ (r c : ℕ). rounded (pos 0) dc)
 unfolding residual noLevels
 dc-only scale dc = λ i r c. rounded (transformed-none scale i r c) dc
-
--- ---- four blocks in a square of 8 × 8
--- its rows number no more than the plane has samples
-pub inside-high : {s x y w h size : ℕ} → Inside s x y w h size → y + h ≤ size
-inside-high {s} {x} {y} {w} {h} i = omega (arith, le-mul-of-pos-right (y + h) (i .some), i .down)
-
-pub inside-lower-right : {s x y size size′ : ℕ} → Inside s x y 8 8 size → size′ ≡ size → Inside s (x + 4) (y + 4) 4 4 size′
-inside-lower-right {s} {x} {y} i e =
-    let m : (y + 4 + 4) * s ≤ (y + 8) * s = mul-le-mul-right s (omega arith) in
-    record { some = i .some; across = omega (arith, i .across); down = omega (arith, i .down) }
-
-pub four-added : (f : ℕ → ℕ → ℕ → ℤ) (s x y : ℕ) (p₀ : List ℕ) {p₁ p₂ p₃ p₄ : List ℕ} → p₁ ≡ added p₀ s x y (f 0) → p₂ ≡ added p₁ s (x + 4) y (f 1) → p₃ ≡ added p₂ s x (y + 4) (f 2) → p₄ ≡ added p₃ s (x + 4) (y + 4) (f 3)
-    → p₄ ≡ addedFour p₀ s x y f
-unfolding addedFour
-four-added f s x y p₀ a b c d =
-    d
-    ∙ ap (λ p. added p s (x + 4) (y + 4) (f 3)) (c ∙ ap (λ p. added p s x (y + 4) (f 2)) (b ∙ ap (λ p. added p s (x + 4) y (f 1)) a))

@@ -14,8 +14,3 @@ raised plane stride x y residual r c = clip1Z (pos (seen plane stride x y r c) +
 -- a plane after a block of 4 × 4 residuals is added from column x of row y on
 unfoldable pub added : List ℕ → ℕ → ℕ → ℕ → (ℕ → ℕ → ℤ) → List ℕ
 added plane stride x y residual = painted stride x y 4 4 (raised plane stride x y residual) plane
-
--- a plane after four blocks are added, the upper two and then the lower two, from column x of row y on
-unfoldable pub addedFour : List ℕ → ℕ → ℕ → ℕ → (ℕ → ℕ → ℕ → ℤ) → List ℕ
-addedFour plane stride x y residual =
-    added (added (added (added plane stride x y (residual 0)) stride (x + 4) y (residual 1)) stride x (y + 4) (residual 2)) stride (x + 4) (y + 4) (residual 3)

@@ -1,5 +1,4 @@
 // Levels to residuals, and residuals added to samples.
-pub mod exact;
 pub mod svq3_dequant;
 pub mod svq3_pred;
 pub mod svq3_recon;

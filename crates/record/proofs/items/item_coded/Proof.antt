@@ -7,23 +7,11 @@ use borrow.Author.Needs.{needs}
 use Rattle.record.proofs.items.item_coded.Statement.{statement}
 use Rattle.record.proofs.items.item_coded.Tie as tie
 
-cast-luma-quadrant-coded : tie.Need-cast-luma-quadrant-coded
-cast-luma-quadrant-coded c = search needs
-
-luma-quadrant-coded-requires : tie.Need-luma-quadrant-coded-requires
-luma-quadrant-coded-requires c κs = search needs
-
 returns : tie.Need-returns
 returns c = c .luma-quadrant-coded .ensures ∙ sym (is-luma (c .before .before .args .i) (c .before .if1 .taken) .coded (c .before .before .args .pattern))
 
-chroma-class-requires : tie.Need-chroma-class-requires
-chroma-class-requires c κs = search needs
-
 returns-2 : tie.Need-returns-2
 returns-2 c = ap (ltb 0) (c .chroma-class .ensures) ∙ sym (is-dc (c .before .before .before .args .i) (c .before .before .if1 .left) (c .before .if2 .taken) .coded (c .before .before .before .args .pattern))
-
-chroma-class-requires-2 : tie.Need-chroma-class-requires-2
-chroma-class-requires-2 c κs = search needs
 
 returns-3 : tie.Need-returns-3
 returns-3 c = ap (λ (n : ℕ). eqb n 2) (c .chroma-class2 .ensures) ∙ sym (is-ac (c .before .before .before .args .i) (c .before .if2 .left) .coded (c .before .before .before .args .pattern))
@@ -32,10 +20,10 @@ pub item-coded-spec : {M : Type 1} → statement M
 item-coded-spec =
     tie.close
     (tie.spec
-    cast-luma-quadrant-coded
-    luma-quadrant-coded-requires
+    (λ c. search needs)
+    (λ c κs. search needs)
     returns
-    chroma-class-requires
+    (λ c κs. search needs)
     returns-2
-    chroma-class-requires-2
+    (λ c κs. search needs)
     returns-3)

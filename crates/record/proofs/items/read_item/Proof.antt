@@ -10,22 +10,13 @@ use borrow.Author.Needs.{needs}
 use Rattle.record.proofs.items.read_item.Statement.{statement}
 use Rattle.record.proofs.items.read_item.Tie as tie
 
-item-coded-requires : tie.Need-item-coded-requires
-item-coded-requires c κs = search needs
-
 returns : tie.Need-returns
 returns c = let a = c .before .before .before .args in read-passed (a .pattern) (a .i) (a .at) (a .levels .now) _ (sym (c .before .item-coded .ensures) ∙ not-true _ (c .if1 .taken))
-
-item-place-requires : tie.Need-item-place-requires
-item-place-requires c κs = search needs
 
 decode-residual-4x4-normal-requires : tie.Need-decode-residual-4x4-normal-requires
 decode-residual-4x4-normal-requires c κs =
     let i = c .before .before .before .before .before .before .args .i in
     (omega (arith, within i (omega arith), is-luma i (c .before .if2 .taken) .count), search needs, omega arith)
-
-same-length : tie.Need-same-length
-same-length c = search needs
 
 returns-2 : tie.Need-returns-2
 returns-2 c =
@@ -38,9 +29,6 @@ decode-chroma-dc-2x2-requires c κs =
     let i = c .before .before .before .before .before .before .before .args .i in
     (omega (arith, within i (omega arith), is-dc i (c .before .before .if2 .left) (c .before .if3 .taken) .count), omega arith)
 
-same-length-2 : tie.Need-same-length-2
-same-length-2 c = search needs
-
 returns-3 : tie.Need-returns-3
 returns-3 c =
     let a = c .before .before .before .before .before .before .before .before .before .args in
@@ -52,9 +40,6 @@ decode-residual-4x4-normal-requires-2 c κs =
     let i = c .before .before .before .before .before .before .before .args .i in
     (omega (arith, within i (omega arith), is-ac i (c .before .if3 .left) .count), search needs, omega arith)
 
-same-length-3 : tie.Need-same-length-3
-same-length-3 c = search needs
-
 returns-4 : tie.Need-returns-4
 returns-4 c =
     let a = c .before .before .before .before .before .before .before .before .before .args in
@@ -65,15 +50,15 @@ pub read-item-spec : {M : Type 1} → statement M
 read-item-spec =
     tie.close
     (tie.spec
-    item-coded-requires
+    (λ c κs. search needs)
     returns
-    item-place-requires
+    (λ c κs. search needs)
     decode-residual-4x4-normal-requires
-    same-length
+    (λ c. search needs)
     returns-2
     decode-chroma-dc-2x2-requires
-    same-length-2
+    (λ c. search needs)
     returns-3
     decode-residual-4x4-normal-requires-2
-    same-length-3
+    (λ c. search needs)
     returns-4)

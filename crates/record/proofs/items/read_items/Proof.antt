@@ -30,9 +30,6 @@ loop-holds c = let a = c .before .args in (begins read (a .pattern) (a .levels .
 read-item-requires : tie.Need-read-item-requires Inv-loop μ-loop
 read-item-requires c κs = (c .before .loop-test .taken, c .before .before .loop .inv .1, c .before .before .before .before .pre .1)
 
-enum-known-next : tie.Need-enum-known-next Inv-loop μ-loop
-enum-known-next c = search needs
-
 add-i : tie.Need-add-i Inv-loop μ-loop
 add-i c = omega (arith, c .before .before .before .before .before .before .loop-test .taken)
 
@@ -45,9 +42,6 @@ loop-again c = (
   goes-on read _ (c .before .before .before .before .before .before .before .loop .inv .0) _ _ _ (c .before .before .before .before .before .before .loop-test .taken) (c .before .next .given .1) (c .before .before .before .before .read-item .ensures),
   c .before .before .before .before .read-item .kept .0 ∙ c .before .before .before .before .before .before .before .loop .inv .1,
 )
-
-enum-known-r : tie.Need-enum-known-r Inv-loop μ-loop
-enum-known-r c = search needs
 
 same-length : tie.Need-same-length Inv-loop μ-loop
 same-length c = c .before .before .before .before .read-item .kept .0 ∙ c .before .before .before .before .before .before .before .loop .inv .1 ∙ sym (c .before .before .before .before .before .before .before .before .before .pre .0)
@@ -71,11 +65,11 @@ read-items-spec =
     μ-loop
     loop-holds
     read-item-requires
-    enum-known-next
+    (λ c. search needs)
     add-i
     loop-less
     loop-again
-    enum-known-r
+    (λ c. search needs)
     same-length
     returns
     same-length-2

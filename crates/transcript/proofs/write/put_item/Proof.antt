@@ -11,23 +11,11 @@ use borrow.Author.Needs.{needs}
 use Rattle.transcript.proofs.write.put_item.Statement.{statement}
 use Rattle.transcript.proofs.write.put_item.Tie as tie
 
-item-coded-requires : tie.Need-item-coded-requires
-item-coded-requires c κs = search needs
-
 returns : tie.Need-returns
 returns c =
     let a = c .before .before .before .args in
     let none = item-passed (a .pattern) (a .levels .now) (a .i) (sym (c .before .item-coded .ensures) ∙ not-true _ (c .if1 .taken)) in
     record { moved = omega (arith, ap length none); leaves = ap (sets (a .out .now) (a .at)) (sym none) }
-
-item-start-requires : tie.Need-item-start-requires
-item-start-requires c κs = search needs
-
-item-count-requires : tie.Need-item-count-requires
-item-count-requires c κs = search needs
-
-item-place-requires : tie.Need-item-place-requires
-item-place-requires c κs = search needs
 
 add-put-signed-numbers : tie.Need-add-put-signed-numbers
 add-put-signed-numbers c = let i = c .before .before .before .before .before .before .before .args .i in omega (arith, c .before .before .before .before .before .before .before .pre .0, within i (c .before .before .before .before .before .before .before .pre .0), start-most i, c .before .item-place .ensures, c .before .before .before .item-start .ensures)
@@ -41,9 +29,6 @@ put-signed-numbers-requires c κs =
     let e = item-coded (a .pattern) (a .levels .now) (a .i) _ _ _ (sym (c .before .before .before .before .before .item-coded .ensures) ∙ not-false _ (c .before .before .before .before .if1 .left)) (c .before .before .before .item-start .ensures) (c .before .before .item-count .ensures) (c .before .item-place .ensures) in
     (omega (arith, within (a .i) (c .before .before .before .before .before .before .before .pre .0), start-in (a .i), c .before .item-place .ensures, c .before .before .item-count .ensures, c .before .before .before .item-start .ensures, c .before .before .before .before .before .before .before .pre .1), omega (arith, ap length e, c .before .before .before .before .before .before .before .pre .2))
 
-same-length : tie.Need-same-length
-same-length c = search needs
-
 returns-2 : tie.Need-returns-2
 returns-2 c =
     let a = c .before .before .before .before .before .before .before .before .before .before .args in
@@ -54,13 +39,13 @@ pub put-item-spec : {M : Type 1} → statement M
 put-item-spec =
     tie.close
     (tie.spec
-    item-coded-requires
+    (λ c κs. search needs)
     returns
-    item-start-requires
-    item-count-requires
-    item-place-requires
+    (λ c κs. search needs)
+    (λ c κs. search needs)
+    (λ c κs. search needs)
     add-put-signed-numbers
     sub-put-signed-numbers
     put-signed-numbers-requires
-    same-length
+    (λ c. search needs)
     returns-2)

@@ -23,12 +23,6 @@ put-item-requires c κs =
     let l = c .before .before .loop in
     (c .before .loop-test .taken, c .before .before .before .before .pre .0, item-fits (a .pattern) (a .levels .now) (l .i) (c .before .loop-test .taken) (l .inv .0) (c .before .before .before .before .pre .1))
 
-add-i : tie.Need-add-i Inv-loop μ-loop
-add-i c = omega arith
-
-loop-less : tie.Need-loop-less Inv-loop μ-loop
-loop-less c = omega arith
-
 loop-again : tie.Need-loop-again Inv-loop μ-loop
 loop-again c =
     let a = c .before .before .before .before .before .before .before .args in
@@ -49,8 +43,8 @@ put-items-spec =
     μ-loop
     loop-holds
     put-item-requires
-    add-i
-    loop-less
+    (λ c. omega arith)
+    (λ c. omega arith)
     loop-again
     same-length
     returns)

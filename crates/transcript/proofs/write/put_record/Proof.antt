@@ -58,9 +58,6 @@ put-number-requires-2 c κs = due-fits (d2 (c .before)) (room (c .before .before
 put-number-requires-3 : tie.Need-put-number-requires-3
 put-number-requires-3 c κs = due-fits (d3 (c .before)) (room (c .before .before .before .before .before .before .before .before .before .before))
 
-same-length : tie.Need-same-length
-same-length c = search needs
-
 returns : tie.Need-returns
 returns c = due-nothing (skip-rest (R (S4 (c .before .before))) (c .if1 .taken)) (d4 (c .before .before))
 
@@ -68,9 +65,6 @@ put-rest-requires : tie.Need-put-rest-requires
 put-rest-requires c κs =
     let s = S4 (c .before .before .before) in
     (s .pre .0, s .pre .1, s .pre .2, rw (coded-rest (R s) (c .before .if1 .left)) at (due-fits (d4 (c .before .before .before)) (room s)))
-
-same-length-2 : tie.Need-same-length-2
-same-length-2 c = search needs
 
 returns-2 : tie.Need-returns-2
 returns-2 c = due-none (due-next (rw (coded-rest (R (S4 (c .before .before .before .before .before .before))) (c .before .before .before .before .if1 .left)) at (d4 (c .before .before .before .before .before .before))) (c .before .before .put-rest .ensures))
@@ -82,8 +76,8 @@ put-record-spec =
     put-number-requires
     put-number-requires-2
     put-number-requires-3
-    same-length
+    (λ c. search needs)
     returns
     put-rest-requires
-    same-length-2
+    (λ c. search needs)
     returns-2)

@@ -71,9 +71,6 @@ put-number-requires c κs = due-fits (d1 (c .before .before)) (c .before .before
 put-number-requires-2 : tie.Need-put-number-requires-2
 put-number-requires-2 c κs = due-fits (d2 (c .before)) (c .before .before .before .before .before .before .pre .3)
 
-num-motion-vectors-requires : tie.Need-num-motion-vectors-requires
-num-motion-vectors-requires c κs = search needs
-
 mul-put-signed-numbers : tie.Need-mul-put-signed-numbers
 mul-put-signed-numbers c = let s = S3 (c .before .before) in omega (arith, c .num-motion-vectors .ensures, used-most (s .args .head .mode) (s .pre .0 .mode))
 
@@ -88,14 +85,8 @@ put-number-requires-3 c κs = due-fits (d4 (c .before)) (S4 (c .before) .pre .3)
 put-number-requires-4 : tie.Need-put-number-requires-4
 put-number-requires-4 c κs = due-fits (d5 (c .before)) (S5 (c .before) .pre .3)
 
-cast-put-items : tie.Need-cast-put-items
-cast-put-items c = search needs
-
 put-items-requires : tie.Need-put-items-requires
 put-items-requires c κs = let s = S6 (c .before .before) in (s .pre .2, due-fits (d6 (c .before .before)) (s .pre .3))
-
-same-length : tie.Need-same-length
-same-length c = search needs
 
 returns : tie.Need-returns
 returns c = due-none (due-next (d6 (c .before .before .before .before .before)) (c .before .before .put-items .ensures))
@@ -106,12 +97,12 @@ put-rest-spec =
     (tie.spec
     put-number-requires
     put-number-requires-2
-    num-motion-vectors-requires
+    (λ c κs. search needs)
     mul-put-signed-numbers
     put-signed-numbers-requires
     put-number-requires-3
     put-number-requires-4
-    cast-put-items
+    (λ c. search needs)
     put-items-requires
-    same-length
+    (λ c. search needs)
     returns)

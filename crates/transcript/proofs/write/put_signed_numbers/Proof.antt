@@ -26,12 +26,6 @@ loop-holds c =
     let f : a .first + 0 ≡ a .first = omega arith in
     (still-all (a .out .now) (a .at) _ _ (rw (z, f)), omega arith)
 
-add-put-signed-number : tie.Need-add-put-signed-number Inv-loop μ-loop
-add-put-signed-number c = omega arith
-
-mul-put-signed-number : tie.Need-mul-put-signed-number Inv-loop μ-loop
-mul-put-signed-number c = omega arith
-
 shared-slice-copy-out-put-signed-number :
     tie.Need-shared-slice-copy-out-put-signed-number Inv-loop μ-loop
 shared-slice-copy-out-put-signed-number c = omega arith
@@ -42,12 +36,6 @@ put-signed-number-requires c κs =
     let l = c .before .before .before .loop in
     let z : toZ w32 (ofZ w32 (getD (a .numbers .now) (a .first + l .i) (pos 0))) ≡ getD (a .numbers .now) (a .first + l .i) (pos 0) = search needs in
     number-fits (a .numbers .now) (a .first) (a .count) (l .i) (c .before .before .loop-test .taken) (c .before .before .before .before .before .pre .0) (l .inv .0) _ z (c .before .before .before .before .before .pre .1)
-
-add-i : tie.Need-add-i Inv-loop μ-loop
-add-i c = omega arith
-
-loop-less : tie.Need-loop-less Inv-loop μ-loop
-loop-less c = omega arith
 
 loop-again : tie.Need-loop-again Inv-loop μ-loop
 loop-again c =
@@ -74,12 +62,12 @@ put-signed-numbers-spec =
     Inv-loop
     μ-loop
     loop-holds
-    add-put-signed-number
-    mul-put-signed-number
+    (λ c. omega arith)
+    (λ c. omega arith)
     shared-slice-copy-out-put-signed-number
     put-signed-number-requires
-    add-i
-    loop-less
+    (λ c. omega arith)
+    (λ c. omega arith)
     loop-again
     same-length
     returns)

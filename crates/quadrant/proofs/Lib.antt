@@ -1,0 +1,4 @@
+pub mod Sums
+pub mod Turns
+pub mod Unsaturated
+pub mod Square

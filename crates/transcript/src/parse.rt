@@ -1,0 +1,210 @@
+// A record is read back from the bytes of a transcript.
+ghost use mathlib.Core.Path.{_≡_};
+ghost use mathlib.Core.List.{List};
+ghost use Prim.Native.Nat.{_+_, _≤_, _<_};
+ghost use lib.IntN.{ℤ};
+ghost use lib.ListN.{length, drop};
+ghost use lib.Seq.{sets};
+ghost use Rattle.refusal.specs.Got.{mapGot};
+ghost use Rattle.number.specs.Number.{numberAnswer};
+ghost use Rattle.residual.specs.Levels.{zeros};
+ghost use Rattle.record.specs.Record.{noVectors, noLevels};
+ghost use Rattle.record.specs.Parse.{field, readSigneds, parseItems, parseResidual, parseMotion, parseRecord};
+ghost use Rattle.record.specs.Answers.{Left};
+ghost use Rattle.transcript.specs.Answers.{Parsing};
+use number::NumberAnswer;
+use number::SignedNumberAnswer;
+use number::read_number;
+use number::read_signed_number;
+use record::Head;
+use record::items::item_coded;
+use record::items::item_count;
+use record::items::item_place;
+use record::items::item_start;
+use record::place_head;
+use record::skip_head;
+use record::with_motion;
+use record::with_residual;
+use refusal::Refusal;
+use residual::svq3_coeff::ListAnswer;
+use vectors::svq3_mb::num_motion_vectors;
+
+pub enum ParseAnswer {
+    // the numbers of a record, and the place after it
+    Parsed(Head, usize),
+    Refused(Refusal),
+}
+
+// A number that is at most `most`.
+fn read_field(bytes: &[u8], at: usize, most: u32) -> NumberAnswer
+    ensures { λ r. ⌜ r ≡ numberAnswer at (field most (drop at (now (bytes .entry)))) ⌝ }
+{
+    match read_number(bytes, at) {
+        NumberAnswer::Number(v, next) => {
+            if v <= most {
+                NumberAnswer::Number(v, next)
+            } else {
+                NumberAnswer::Refused(Refusal::FieldRange)
+            }
+        }
+        NumberAnswer::Refused(r) => NumberAnswer::Refused(r),
+    }
+}
+
+// `count` signed numbers, stored from the place `first` on.
+fn read_signed_numbers(
+    out: &mut [i32],
+    bytes: &[u8],
+    at: usize,
+    first: usize,
+    count: usize,
+) -> ListAnswer
+    requires { ⌜ first + count ≤ length (now out) ⌝ }
+    ensures { λ r. ⌜ Left at (mapGot (sets (now (out .entry)) first) (readSigneds count (drop at (now (bytes .entry))))) r (now (out .exit)) ⌝ }
+{
+    let mut p = at;
+    let mut i = 0;
+    while i < count {
+        match read_signed_number(bytes, p) {
+            SignedNumberAnswer::SignedNumber(v, next) => {
+                out[first + i] = v;
+                p = next;
+                i += 1;
+            }
+            SignedNumberAnswer::Refused(r) => return ListAnswer::Refused(r),
+        }
+    }
+    ListAnswer::End(p)
+}
+
+// List i, where it is coded.
+fn parse_item(levels: &mut [i32], bytes: &[u8], at: usize, pattern: u8, i: usize) -> ListAnswer
+    requires { ⌜ (i < 26) × (length (now levels) ≡ 392) ⌝ }
+    ensures { λ r. ⌜ Left at (parseItems 1 i pattern (now (levels .entry)) (drop at (now (bytes .entry)))) r (now (levels .exit)) ⌝ }
+{
+    if !item_coded(pattern, i) {
+        return ListAnswer::End(at);
+    }
+    let start = item_start(i);
+    let count = item_count(i);
+    let place = item_place(i);
+    // an AC list's first number belongs to the place behind this one
+    levels[place] = 0;
+    read_signed_numbers(levels, bytes, at, place + start, count - start)
+}
+
+fn parse_items(levels: &mut [i32], bytes: &[u8], at: usize, pattern: u8) -> ListAnswer
+    requires { ⌜ length (now levels) ≡ 392 ⌝ }
+    ensures { λ r. ⌜ Left at (parseItems 26 0 pattern (now (levels .entry)) (drop at (now (bytes .entry)))) r (now (levels .exit)) ⌝ }
+{
+    let mut p = at;
+    let mut i = 0;
+    while i < 26 {
+        match parse_item(levels, bytes, p, pattern, i) {
+            ListAnswer::End(next) => {
+                p = next;
+                i += 1;
+            }
+            ListAnswer::Refused(r) => return ListAnswer::Refused(r),
+        }
+    }
+    ListAnswer::End(p)
+}
+
+// Pattern, quantiser, levels.
+fn parse_residual(levels: &mut [i32], bytes: &[u8], at: usize, head: Head) -> ParseAnswer
+    requires { ⌜ now levels ≡ noLevels ⌝ }
+    ensures { λ r. ⌜ ((vs : List ℤ) → Parsing at (parseResidual head vs (drop at (now (bytes .entry)))) r vs (now (levels .exit))) ⌝ }
+{
+    match read_field(bytes, at, 47) {
+        NumberAnswer::Number(pattern, p) => match read_field(bytes, p, 31) {
+            NumberAnswer::Number(quantiser, q) => match parse_items(
+                levels,
+                bytes,
+                q,
+                pattern as u8,
+            ) {
+                ListAnswer::End(next) => {
+                    ParseAnswer::Parsed(with_residual(head, pattern, quantiser), next)
+                }
+                ListAnswer::Refused(r) => ParseAnswer::Refused(r),
+            },
+            NumberAnswer::Refused(r) => ParseAnswer::Refused(r),
+        },
+        NumberAnswer::Refused(r) => ParseAnswer::Refused(r),
+    }
+}
+
+// Precision, clipped count, vectors, and what follows.
+fn parse_motion(
+    vectors: &mut [i32],
+    levels: &mut [i32],
+    bytes: &[u8],
+    at: usize,
+    head: Head,
+) -> ParseAnswer
+    requires { ⌜ (now vectors ≡ noVectors) × (now levels ≡ noLevels) × (head .mode ≤ 7) ⌝ }
+    ensures { λ r. ⌜ Parsing at (parseMotion head (drop at (now (bytes .entry)))) r (now (vectors .exit)) (now (levels .exit)) ⌝ }
+{
+    let used = 2 * num_motion_vectors(head.mode);
+    match read_field(bytes, at, 2) {
+        NumberAnswer::Number(precision, p) => match read_field(bytes, p, used as u32) {
+            NumberAnswer::Number(clipped, q) => match read_signed_numbers(
+                vectors,
+                bytes,
+                q,
+                0,
+                used,
+            ) {
+                ListAnswer::End(next) => {
+                    parse_residual(levels, bytes, next, with_motion(head, precision, clipped))
+                }
+                ListAnswer::Refused(r) => ParseAnswer::Refused(r),
+            },
+            NumberAnswer::Refused(r) => ParseAnswer::Refused(r),
+        },
+        NumberAnswer::Refused(r) => ParseAnswer::Refused(r),
+    }
+}
+
+fn clear(out: &mut [i32])
+    ensures { λ _. ⌜ now (out .exit) ≡ zeros (length (now (out .entry))) ⌝ }
+{
+    let mut i = 0;
+    while i < out.len() {
+        out[i] = 0;
+        i += 1;
+    }
+}
+
+// The record at a place, which may lie anywhere, also past the end. What the two slices held does not matter.
+pub fn parse_record(
+    vectors: &mut [i32],
+    levels: &mut [i32],
+    bytes: &[u8],
+    at: usize,
+    cols: u32,
+    rows: u32,
+) -> ParseAnswer
+    requires { ⌜ (length (now vectors) ≡ 32) × (length (now levels) ≡ 392) ⌝ }
+    ensures { λ r. ⌜ Parsing at (parseRecord cols rows (drop at (now (bytes .entry)))) r (now (vectors .exit)) (now (levels .exit)) ⌝ }
+{
+    clear(vectors);
+    clear(levels);
+    let NumberAnswer::Number(column, p) = read_number(bytes, at) else {
+        return ParseAnswer::Refused(Refusal::NumberForm);
+    };
+    let NumberAnswer::Number(row, q) = read_number(bytes, p) else {
+        return ParseAnswer::Refused(Refusal::NumberForm);
+    };
+    let NumberAnswer::Number(mode, next) = read_number(bytes, q) else {
+        return ParseAnswer::Refused(Refusal::NumberForm);
+    };
+    if (column < cols) & (row < rows) & (mode <= 7) {
+        if mode == 0 {
+            return ParseAnswer::Parsed(skip_head(column, row), next);
+        }
+        return parse_motion(vectors, levels, bytes, next, place_head(column, row, mode));
+    }
+    ParseAnswer::Refused(Refusal::FieldRange)
+}
