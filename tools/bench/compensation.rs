@@ -47,7 +47,10 @@ struct Blocks {
     cr: [u8; 64],
 }
 
-pub fn rows(show: &mut impl FnMut(Row)) {
+/// How many times as fast the library has to be.
+const BAR: f64 = 4.0;
+
+pub fn rows(show: &mut impl FnMut(f64, Row)) {
     let planes = Planes::drawn();
     let phases = [(0, 0), (3, 3), (2, 4), (1, 3)];
     // Vectors of whole luma and chroma samples, to which the phases are added.
@@ -60,11 +63,12 @@ pub fn rows(show: &mut impl FnMut(Row)) {
             let place = Place { vector: (place.vector.0 + px, place.vector.1 + py), ..place };
             let name = format!("compensation, phases ({px},{py}), {side}");
             assert!(reference(&planes, place) == proved(&planes, place), "{name}: results differ");
-            show(Row::measure(
+            let row = Row::measure(
                 name,
                 || drop(black_box(reference(&planes, black_box(place)))),
                 || drop(black_box(proved(&planes, black_box(place)))),
-            ));
+            );
+            show(BAR, row);
         }
     }
 }

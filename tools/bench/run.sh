@@ -16,7 +16,9 @@ if [ "$(uname -m)" != x86_64 ]; then
 fi
 
 mkdir -p "$out"
-(cd "$root" && rt staticlib desk) > "$out/staticlib.log" 2>&1 || { cat "$out/staticlib.log"; exit 1; }
-rustc --edition 2024 -O --extern published="$published" -L "native=$root/target/staticlib" -l static=desk \
+for crate in desk timed; do
+    (cd "$root" && rt staticlib $crate) > "$out/staticlib.log" 2>&1 || { cat "$out/staticlib.log"; exit 1; }
+done
+rustc --edition 2024 -O --extern published="$published" -L "native=$root/target/staticlib" -l static=desk -l static=timed \
     -o "$out/bench" "$here/main.rs"
 "$out/bench"
