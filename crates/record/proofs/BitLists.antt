@@ -12,7 +12,8 @@ use Rattle.residual.specs.declared.svq3_coeff.ListAnswer.{ListAnswer}
 use Rattle.residual.specs.declared.svq3_coeff.ListAnswer.the-variants.{End}
 use Rattle.record.specs.Items.{itemCoded, itemBook, itemStart, itemPlace, readItems}
 use Rattle.record.specs.Answers.{Left}
-use Rattle.record.proofs.Walks.{one-coded, one-passed, left-end, stored}
+use Rattle.record.proofs.Answers.{left-end}
+use Rattle.record.proofs.Walks.{one-coded, one-passed, stored}
 
 module _ (pattern i at : ℕ) (ls : List ℤ) (s : List Bool) where
   pub read-passed : itemCoded pattern i ≡ false → Left at (readItems 1 i pattern ls s) (End at) ls

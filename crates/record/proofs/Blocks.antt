@@ -3,7 +3,7 @@
 use mathlib.Core.Path.{_≡_, ap}
 use mathlib.Core.List.{List, [], _++_}
 use mathlib.Core.Logic.{⊎-elim}
-use Prim.Native.Nat.{ℕ, _+_, _≤_, _<_, _^_}
+use Prim.Native.Nat.{ℕ, _≤_, _<_, _^_}
 use native.Mathlib.Nat.{le-of-lt}
 use native.Mathlib.Omega.{arith}
 use lib.Dec.{lit<}

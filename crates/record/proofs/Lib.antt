@@ -7,6 +7,7 @@ pub mod Fields
 pub mod Padded
 pub mod Records
 pub mod Lengths
+pub mod Answers
 pub mod Walks
 pub mod BitLists
 pub mod Examples

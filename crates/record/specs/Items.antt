@@ -19,6 +19,7 @@ use Rattle.residual.specs.declared.svq3_coeff.ResidualBook.the-variants.{Normal
 unfoldable pub itemCoded : ℕ → ℕ → Bool
 itemCoded pattern i = if ltb i 16 then quadrantCoded pattern (i / 4) else if ltb i 18 then ltb 0 (classOf pattern) else eqb (classOf pattern) 2
 
+-- the book of its codes
 unfoldable pub itemBook : ℕ → ResidualBook
 itemBook i = if ltb i 16 then NormalScan else if ltb i 18 then ChromaDc else NormalScan
 
@@ -26,10 +27,11 @@ itemBook i = if ltb i 16 then NormalScan else if ltb i 18 then ChromaDc else Nor
 unfoldable pub itemStart : ℕ → ℕ
 itemStart i = if ltb i 18 then 0 else 1
 
--- list i has so many levels, from this place on among the record's 392; an AC list has place 0 too, which stays 0
+-- the number of its places; place 0 of an AC list stays 0
 unfoldable pub itemCount : ℕ → ℕ
 itemCount i = positions (itemBook i)
 
+-- its first place among the record's 392
 unfoldable pub itemPlace : ℕ → ℕ
 itemPlace i = if ltb i 16 then 16 * i else if ltb i 18 then 256 + 4 * (i - 16) else 264 + 16 * (i - 18)
 
@@ -37,7 +39,7 @@ itemPlace i = if ltb i 16 then 16 * i else if ltb i 18 then 256 + 4 * (i - 16) e
 unfoldable pub itemLevels : List ℤ → ℕ → List ℤ
 itemLevels levels i = take (itemCount i) (drop (itemPlace i) levels)
 
--- the coded ones of the n lists from the i-th on: each is read by `read` and put at its place
+-- of the n lists from the i-th on, each coded one is read by `read` and put at its place
 unfoldable pub readLists : {E : Type 0} → (ℕ → List E → Got (List ℤ)) → ℕ → ℕ → ℕ → List ℤ → List E → Got (List ℤ)
 readLists read zero i pattern levels s = got levels 0
 readLists read (suc n) i pattern levels s =
@@ -45,12 +47,12 @@ readLists read (suc n) i pattern levels s =
     then andThen (read i s) s (λ found rest. readLists read n (suc i) pattern (sets levels (itemPlace i) found) rest)
     else readLists read n (suc i) pattern levels s
 
--- they, one after another, as `write` has each
+-- each coded one as `write` has it, one after another
 unfoldable pub writeLists : {E : Type 0} → (ℕ → List ℤ → List E) → ℕ → ℕ → ℕ → List ℤ → List E
 writeLists write zero i pattern levels = []
 writeLists write (suc n) i pattern levels = (if itemCoded pattern i then write i (itemLevels levels i) else []) ++ writeLists write n (suc i) pattern levels
 
--- read from the bits of a macroblock, and those bits
+-- the lists as a macroblock's bits have them: read, and their bits
 unfoldable pub readItems : ℕ → ℕ → ℕ → List ℤ → List Bool → Got (List ℤ)
 readItems = readLists (λ i. block (itemBook i) (itemStart i))
 

@@ -26,10 +26,11 @@ unfoldable pub readSigneds : ℕ → List ℕ → Got (List ℤ)
 readSigneds zero s = got [] 0
 readSigneds (suc n) s = andThen (readSigned s) s (λ z rest. mapGot (λ zs. z ∷ zs) (readSigneds n rest))
 
--- the levels of a list, 0 at the place before an AC list's
+-- the levels of a list; an AC list has 0 at place 0, which is not sent
 unfoldable pub parseItem : ℕ → List ℕ → Got (List ℤ)
 parseItem i s = mapGot (λ zs. zeros (itemStart i) ++ zs) (readSigneds (itemCount i - itemStart i) s)
 
+-- the lists as a record has them
 unfoldable pub parseItems : ℕ → ℕ → ℕ → List ℤ → List ℕ → Got (List ℤ)
 parseItems = readLists parseItem
 

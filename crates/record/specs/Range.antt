@@ -17,7 +17,7 @@ use Rattle.record.specs.Items.{itemCoded, itemBook, itemStart, itemCount
 abbrev pub I32s : List ℤ → Type 0
 I32s xs = (i : ℕ) → SignedNumberRange (getD xs i (pos 0))
 
--- 392 levels: a coded list is `fine`, another 0
+-- 392 levels: each coded list is `fine`, the others are 0
 pub record ListsRange (fine : ℕ → List ℤ → Type 0) (pattern : ℕ) (levels : List ℤ) : Type 0 where
   pub count : length levels ≡ 392
   pub coded : (i : ℕ) → i < 26 → itemCoded pattern i ≡ true → fine i (itemLevels levels i)
@@ -27,13 +27,13 @@ pub record ListsRange (fine : ℕ → List ℤ → Type 0) (pattern : ℕ) (leve
 abbrev pub ItemsRange : ℕ → List ℤ → Type 0
 ItemsRange = ListsRange (λ i. BlockRange (itemBook i) (itemStart i))
 
--- one list of a transcript: any i32, 0 before an AC list's places
+-- one list of a record: any i32; 0 at place 0 of an AC list
 pub record ItemRange (i : ℕ) (xs : List ℤ) : Type 0 where
   pub count : length xs ≡ itemCount i
   pub before : take (itemStart i) xs ≡ zeros (itemStart i)
   pub fits : I32s xs
 
--- 32 numbers, of which the first n are used
+-- 32 numbers, of which the first n are used and the others 0
 pub record VectorsRange (n : ℕ) (vectors : List ℤ) : Type 0 where
   pub count : length vectors ≡ 32
   pub fits : I32s vectors

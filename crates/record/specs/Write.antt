@@ -21,6 +21,7 @@ signedNumbers (z ∷ zs) = signedNumber z ++ signedNumbers zs
 unfoldable pub itemBytes : ℕ → List ℤ → List ℕ
 itemBytes i xs = signedNumbers (drop (itemStart i) xs)
 
+-- the lists as a record has them
 unfoldable pub itemsBytes : ℕ → ℕ → ℕ → List ℤ → List ℕ
 itemsBytes = writeLists itemBytes
 

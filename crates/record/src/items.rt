@@ -13,7 +13,6 @@ use residual::svq3_coeff::decode_residual_4x4_normal;
 
 // Lists 0 to 15 are luma blocks, 16 and 17 chroma DC, 18 to 25 chroma AC.
 pub fn item_coded(pattern: u8, i: usize) -> bool
-    requires { ⌜ i < 26 ⌝ }
     ensures { λ r. ⌜ r ≡ itemCoded pattern i ⌝ }
 {
     if i < 16 {
@@ -25,13 +24,14 @@ pub fn item_coded(pattern: u8, i: usize) -> bool
     chroma_class(pattern) == 2
 }
 
-// The first position that is sent.
+// The first place that is sent: an AC list has no place 0.
 pub fn item_start(i: usize) -> usize
     ensures { λ r. ⌜ r ≡ itemStart i ⌝ }
 {
     if i < 18 { 0 } else { 1 }
 }
 
+// The number of its places.
 pub fn item_count(i: usize) -> usize
     ensures { λ r. ⌜ r ≡ itemCount i ⌝ }
 {
@@ -41,6 +41,7 @@ pub fn item_count(i: usize) -> usize
     if i < 18 { 4 } else { 16 }
 }
 
+// Its first place among the 392.
 pub fn item_place(i: usize) -> usize
     requires { ⌜ i < 26 ⌝ }
     ensures { λ r. ⌜ r ≡ itemPlace i ⌝ }

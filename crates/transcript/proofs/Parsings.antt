@@ -17,7 +17,6 @@ use Rattle.refusal.specs.declared.Refusal.{Refusal}
 use Rattle.refusal.specs.declared.Refusal.the-variants.{NumberForm, FieldRange}
 use Rattle.refusal.proofs.Formats.{got-value, got-count, never}
 use Rattle.number.specs.Number.{readNumber, numberAnswer}
-use Rattle.number.specs.declared.NumberAnswer.{NumberAnswer}
 use Rattle.number.specs.declared.NumberAnswer.the-variants as number
 use Rattle.number.proofs.Answers.{number-answered, number-refused}
 use Rattle.number.proofs.Numbers.{refused-form}
@@ -31,7 +30,7 @@ use Rattle.record.specs.declared.Head.{Head}
 use Rattle.record.proofs.Turns.{when-true, when-false}
 use Rattle.record.proofs.Fields.{field-format}
 use Rattle.record.proofs.Records.{all-three}
-use Rattle.record.proofs.Walks.{ended, refused-by}
+use Rattle.record.proofs.Answers.{ended, refused-by}
 use Rattle.transcript.specs.Answers.{parseAnswer, Parsing}
 use Rattle.transcript.specs.declared.parse.ParseAnswer.{ParseAnswer}
 use Rattle.transcript.specs.declared.parse.ParseAnswer.the-variants.{Parsed, Refused}

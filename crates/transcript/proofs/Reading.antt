@@ -13,14 +13,12 @@ use lib.IntN.{ℤ, pos}
 use lib.ListN.{length, take, drop, set, length-set, replicate-append-replicate}
 use lib.Seq.{sets, drop-drop, take-all, take-suc-set, set-set}
 use Rattle.ints.specs.Z.{if_then_else_}
-use Rattle.refusal.specs.Got.{Got, got, refused, after, andThen, mapGot}
+use Rattle.refusal.specs.Got.{Got, got, refused, after, mapGot}
 use Rattle.refusal.specs.declared.Refusal.{Refusal}
 use Rattle.refusal.specs.declared.Refusal.the-variants.{FieldRange}
 use Rattle.number.specs.Number.{readNumber, numberAnswer}
 use Rattle.number.specs.SignedNumber.{readSigned, signedNumberAnswer}
-use Rattle.number.specs.declared.NumberAnswer.{NumberAnswer}
 use Rattle.number.specs.declared.NumberAnswer.the-variants.{Number, Refused}
-use Rattle.number.specs.declared.SignedNumberAnswer.{SignedNumberAnswer}
 use Rattle.number.specs.declared.SignedNumberAnswer.the-variants as signed
 use Rattle.number.proofs.Answers.{number-answered, number-refused, signed-answered, signed-refused}
 use Rattle.residual.specs.Levels.{zeros}
@@ -33,7 +31,8 @@ use Rattle.record.specs.Answers.{Left}
 use Rattle.record.proofs.Turns.{when-true, when-false}
 use Rattle.record.proofs.ListKinds.{start-most, start-in}
 use Rattle.record.proofs.Fields.{signeds-format}
-use Rattle.record.proofs.Walks.{left-end, left-refused, one-coded, one-passed}
+use Rattle.record.proofs.Answers.{left-end, left-refused}
+use Rattle.record.proofs.Walks.{one-coded, one-passed}
 
 -- ---- a number with a limit
 module _ (at most : ℕ) (s : List ℕ) where

@@ -1,8 +1,8 @@
 -- `transcript::parse::parse_item` reads the numbers of list i where it is coded.
-use mathlib.Core.Path.{_≡_, sym, _∙_}
+use mathlib.Core.Path.{sym, _∙_}
 use native.Mathlib.Omega.{arith}
 use borrow.Author.Tests.{not-true, not-false}
-use lib.ListN.{length, length-set}
+use lib.ListN.{length-set}
 use Rattle.record.proofs.ListKinds.{start-most, start-in}
 use Rattle.record.proofs.Lists.{within}
 use Rattle.transcript.proofs.Reading.{parse-passed, parse-stored}

@@ -1,9 +1,8 @@
 -- `transcript::parse::parse_residual`: each part's answer, taken on to the whole.
-use mathlib.Core.Path.{_≡_, sym, ap, _∙_}
+use mathlib.Core.Path.{sym, ap, _∙_}
 use native.Mathlib.Omega.{arith}
 use lib.Dec.{lit<}
 use lib.ListN.{length}
-use Rattle.record.specs.Parse.{parseResidual}
 use Rattle.record.proofs.Lists.{length-noLevels}
 use Rattle.transcript.proofs.Parsings.{field-most, no-pattern, no-quantiser, no-levels, with-levels}
 use borrow.Author.Needs.{needs}

@@ -1,10 +1,8 @@
 -- `transcript::parse::read_signed_numbers`: the numbers that are stored, joined to those still to be read, are all of them.
-use mathlib.Core.Path.{_≡_, sym, ap, _∙_}
-use Prim.Native.Nat.{_-_, _+_}
+use mathlib.Core.Path.{_≡_, sym, _∙_}
+use Prim.Native.Nat.{_-_}
 use native.Mathlib.Omega.{arith}
 use borrow.Author.Needs.{needs}
-use lib.IntN.{ℤ}
-use lib.ListN.{set}
 use mir.Syntax.{w32}
 use mir.Val.{toZ, ofZ}
 use Rattle.transcript.proofs.Reading.{Taking, taking, takes, take-stops, take-ends}
