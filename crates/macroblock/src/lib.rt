@@ -1,4 +1,6 @@
-// One inter macroblock, its mode given: what it answers.
+// One inter macroblock, its mode given: asked, read, written, applied.
+pub mod svq3_frame;
+
 use refusal::Refusal;
 
 pub enum MbAnswer {

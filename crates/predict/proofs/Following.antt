@@ -16,6 +16,7 @@ use Rattle.vectors.proofs.Partitions.{cut, inside-units}
 use Rattle.predict.specs.Predict.{Field, fieldOf, predicted, predictor}
 use Rattle.predict.specs.Stored.{storedVectors, storedMarks, storedField}
 use Rattle.predict.specs.Window.{Seen, Part}
+pub use Rattle.predict.specs.Window.{Follows}
 use Rattle.predict.specs.declared.svq3_frame.Vector.{Vector}
 use Rattle.predict.proofs.Predictors.{held-size}
 use Rattle.predict.proofs.Storing.{FieldSized, stored-cols, stored-rows, stored-sized}
@@ -24,13 +25,6 @@ use Rattle.predict.proofs.Windows.{seen-stored}
 -- a partition of a mode, in cells
 pub part-of : (mode i : ℕ) → mode ≤ 7 → i < numMotionVectors mode → Part (offsetX mode i / 4) (offsetY mode i / 4) (partitionWidth mode / 4) (partitionHeight mode / 4)
 part-of mode i k l = let h = inside-units 2 mode i (omega arith) k l in record { across = h .0; down = h .1; high-some = cut 2 mode (omega arith) k .high }
-
--- the window follows the field f of a cols × rows grid: what holds before a partition and after it
-pub record Follows (f : Field) (cols rows column row : ℕ) (near : List ℤ) (marked : List ℕ) : Type 0 where
-  pub same-cols : f .cols ≡ cols
-  pub same-rows : f .rows ≡ rows
-  pub sized : FieldSized f
-  pub seen : Seen f column row near marked
 
 module _ {cols rows column row : ℕ} (g : Within cols rows column row) where
   -- what `load_neighbours` and `mark_macroblock` require

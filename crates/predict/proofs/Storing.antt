@@ -22,6 +22,7 @@ use Rattle.picture.specs.Picture.{cellCount, always, filled}
 use Rattle.picture.proofs.Laws.{more, row-more, each-at, painted-length, within-true, within-in}
 use Rattle.predict.proofs.Tests.{and-left, and-right, same-test}
 use Rattle.predict.specs.Predict.{Field, vector, cellAt, nearAt}
+pub use Rattle.predict.specs.Window.{FieldSized}
 use Rattle.predict.specs.Stored.{pairOf, storedVectors, storedMarks, storedField}
 use Rattle.predict.specs.declared.svq3_frame.Near.{Near}
 use Rattle.predict.specs.declared.svq3_frame.Near.the-variants.{Missing, Here}
@@ -127,10 +128,6 @@ module _ (s x y w h r c : ℕ) (lc : c < s) where
       go false m a b = refl
 
 -- ---- a field whose lists have the lengths of its grid
-pub record FieldSized (f : Field) : Type 0 where
-  pub numbers : length (f .mv) ≡ 2 * cellCount (f .cols) (f .rows)
-  pub cells : length (f .marks) ≡ cellCount (f .cols) (f .rows)
-
 pub cell-place : (cols rows x y : ℕ) → x < 4 * cols → y < 4 * rows → y * (4 * cols) + x < cellCount cols rows
 cell-place cols rows x y lx ly = omega (arith, more (4 * cols) ly)
 

@@ -15,7 +15,7 @@ use Rattle.vectors.proofs.Precisions.{precision-format}
 use Rattle.vectors.specs.declared.svq3_mb.Svq3MvPrecision.{Svq3MvPrecision}
 use Rattle.questions.specs.declared.Call.{Call}
 use Rattle.record.proofs.Blocks.{items-format}
-use Rattle.reading.specs.Read.{Context, Moving, moved, readVectors, quantiserIn, readQuantiser, recordOf, atFirst, readCoded, readMacroblock}
+use Rattle.reading.specs.Read.{Context, Moving, moved, readVectors, quantiserIn, readQuantiser, recordOf, atFirst, readResidual, readCoded, readMacroblock}
 
 pub if-local : {E X : Type 0} {f g : List E → Got X} (t : Bool) → Local f → Local g → Local (λ s. if t then f s else g s)
 unfolding if_then_else_
@@ -39,7 +39,7 @@ quantiser-local delta q pattern =
     (of-got q)
 
 coded-local : (c : Context) (call : Call) → Local (readCoded c call)
-unfolding readCoded
+unfolding readCoded readResidual
 coded-local c call =
     then-local (of-format (precision-format (c .halfpel) (c .thirdpel))) (λ p.
     then-local (vectors-local call p (numMotionVectors (call .mode)) 0 (atFirst (c .field))) (λ m.

@@ -2,3 +2,8 @@ pub mod Alone
 pub mod Vectors
 pub mod Quantiser
 pub mod Took
+pub mod Partitions
+pub mod Steps
+pub mod Readings
+pub mod Answers
+pub mod Examples

@@ -26,7 +26,7 @@ use Rattle.record.specs.Record.{Record, noVectors, noLevels, skipRecord}
 use Rattle.record.specs.Items.{readItems, itemsBits}
 use Rattle.record.specs.Range.{VectorsRange, CodedRange, RecordRange}
 use Rattle.record.proofs.Blocks.{items-format, said}
-use Rattle.reading.specs.Read.{Context, Moving, readVectors, readQuantiser, recordOf, atFirst, readCoded, readMacroblock}
+use Rattle.reading.specs.Read.{Context, Moving, readVectors, readQuantiser, recordOf, atFirst, readResidual, readCoded, readMacroblock}
 use Rattle.reading.specs.Bits.{callOf, vectorBits, quantiserBits, codedBits, bitsOf}
 use Rattle.reading.proofs.Vectors.{Grown, grown, vectors-took}
 use Rattle.reading.proofs.Quantiser.{quantiser-most, quantiser-took}
@@ -62,7 +62,7 @@ record Parts (c : Context) (call : Call) (s : List Bool) (r : Record) (n : ℕ) 
   pub sum : n₁ + (n₂ + (n₃ + (n₄ + n₅))) ≡ n
 
 parts : (c : Context) (call : Call) (s : List Bool) (r : Record) (n : ℕ) → readCoded c call s ≡ got r n → Parts c call s r n
-unfolding readCoded
+unfolding readCoded readResidual
 parts c call s r n e =
     let a = apart (precision (c .halfpel) (c .thirdpel) s) _ s r n e in
     let s₁ = drop (a .m) s in

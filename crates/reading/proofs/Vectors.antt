@@ -73,7 +73,7 @@ pub record Grown (n i : ℕ) (m m′ : Moving) : Type 0 where
 grown-none : (i : ℕ) (m : Moving) → Grown 0 i m m
 grown-none i m = record { long = refl; before = λ j h. refl; behind = λ j h. refl; fits = λ f. f; no-fewer = omega arith; at-most = omega arith }
 
-value-most : (b : Bool) → bitValue b ≤ 1
+pub value-most : (b : Bool) → bitValue b ≤ 1
 value-most true = omega arith
 value-most false = omega arith
 

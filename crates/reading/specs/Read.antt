@@ -105,14 +105,19 @@ recordOf call p m pattern q levels =
 unfoldable pub atFirst : Field → Moving
 atFirst f = record { field = f; vectors = noVectors; clipped = 0 }
 
--- precision, vectors, pattern, quantiser, levels
+-- pattern, quantiser, levels, behind the precision p and what was read of the vectors
+unfoldable pub readResidual : Bool → ℕ → Call → Svq3MvPrecision → Moving → List Bool → Got Record
+readResidual delta quantiser call p m s =
+    andThen (pattern s) s (λ v s₁.
+    andThen (readQuantiser delta quantiser v s₁) s₁ (λ q s₂.
+    mapGot (recordOf call p m v q) (readItems 26 0 v noLevels s₂)))
+
+-- precision, vectors, and what follows
 unfoldable pub readCoded : Context → Call → List Bool → Got Record
 readCoded c call s =
     andThen (precision (c .halfpel) (c .thirdpel) s) s (λ p s₁.
     andThen (readVectors call p (numMotionVectors (call .mode)) 0 (atFirst (c .field)) s₁) s₁ (λ m s₂.
-    andThen (pattern s₂) s₂ (λ v s₃.
-    andThen (readQuantiser (c .delta) (c .quantiser) v s₃) s₃ (λ q s₄.
-    mapGot (recordOf call p m v q) (readItems 26 0 v noLevels s₄)))))
+    readResidual (c .delta) (c .quantiser) call p m s₂))
 
 -- a skip reads nothing
 unfoldable pub readMacroblock : Context → Call → List Bool → Got Record

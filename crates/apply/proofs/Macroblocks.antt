@@ -1,0 +1,40 @@
+-- What a record does to a plane, by its mode; and what its range lets the parts of it require.
+-- Assumes nothing.
+use mathlib.Core.Path.{_≡_}
+use mathlib.Core.Logic.{_≢_}
+use mathlib.Core.List.{List}
+use Prim.Native.Nat.{ℕ, _*_, _≤_}
+use native.Mathlib.Omega.{arith}
+use borrow.Author.Tests.{eq-eqb, ne-eqb}
+use Rattle.ints.specs.Z.{if_then_else_}
+use Rattle.picture.specs.Picture.{copied, Within}
+use Rattle.vectors.specs.Modes.{numMotionVectors}
+use Rattle.record.specs.Record.{Record}
+use Rattle.record.specs.Range.{RecordRange, CodedRange}
+use Rattle.reading.specs.Bits.{callOf}
+use Rattle.apply.specs.Apply.{movedUpTo, lumaUpTo, chromaAdded, appliedLuma, appliedChroma}
+
+module _ (cols rows : ℕ) (ref : List ℕ) (r : Record) (pic : List ℕ) where
+  pub skip-luma : r .head .mode ≡ 0 → appliedLuma cols rows ref r pic ≡ copied pic (16 * cols) (16 * r .head .column) (16 * r .head .row) 16 16 ref
+  unfolding appliedLuma if_then_else_
+  skip-luma e = rw (eq-eqb (r .head .mode) 0 e)
+
+  pub coded-luma : r .head .mode ≢ 0 → appliedLuma cols rows ref r pic ≡ lumaUpTo 16 cols (r .head) (r .levels) (movedUpTo (numMotionVectors (r .head .mode)) 1 cols rows ref (callOf r) (r .vectors) pic)
+  unfolding appliedLuma if_then_else_
+  coded-luma e = rw (ne-eqb (r .head .mode) 0 e)
+
+  pub skip-chroma : (plane : ℕ) → r .head .mode ≡ 0 → appliedChroma plane cols rows ref r pic ≡ copied pic (8 * cols) (8 * r .head .column) (8 * r .head .row) 8 8 ref
+  unfolding appliedChroma if_then_else_
+  skip-chroma plane e = rw (eq-eqb (r .head .mode) 0 e)
+
+  pub coded-chroma : (plane : ℕ) → r .head .mode ≢ 0 → appliedChroma plane cols rows ref r pic ≡ chromaAdded plane cols (r .head) (r .levels) (movedUpTo (numMotionVectors (r .head .mode)) 2 cols rows ref (callOf r) (r .vectors) pic)
+  unfolding appliedChroma if_then_else_
+  coded-chroma plane e = rw (ne-eqb (r .head .mode) 0 e)
+
+-- a record's place, and what one that is no skip holds
+module _ {cols rows : ℕ} {r : Record} (range : RecordRange cols rows r) where
+  pub place-within : cols ≤ 4096 → rows ≤ 4096 → Within cols rows (r .head .column) (r .head .row)
+  place-within w h = record { across = range .column; down = range .row; wide = w; high = h }
+
+  pub coded-range : r .head .mode ≢ 0 → CodedRange r
+  coded-range e = range .coded (omega arith)

@@ -1,0 +1,58 @@
+-- `apply::macroblock::apply_chroma`: a skip, or compensation and then the residual.
+use mathlib.Core.Path.{sym, ap, _∙_}
+use mathlib.Core.List.{List}
+use Prim.Native.Nat.{ℕ}
+use lib.Dec.{lit<, lit≤}
+use borrow.Author.Needs.{needs}
+use Rattle.picture.proofs.Laws.{plane-inside}
+use Rattle.record.specs.Record.{recordOf}
+use Rattle.apply.specs.Apply.{chromaAdded}
+use Rattle.apply.proofs.Macroblocks.{skip-chroma, coded-chroma, place-within, coded-range}
+use Rattle.apply.proofs.macroblock.apply_chroma.Statement.{statement}
+use Rattle.apply.proofs.macroblock.apply_chroma.Tie as tie
+
+copy-block-requires : tie.Need-copy-block-requires
+copy-block-requires c κs =
+    let s = c .before .before .before .before in
+    let g = place-within (s .pre .0 .2) (s .pre .0 .0) (s .pre .0 .1) in
+    (plane-inside 8 (lit< tt) g (s .pre .1 .0), (lit≤ tt, plane-inside 8 (lit< tt) g (s .pre .1 .1)))
+
+compensate-partitions-requires : tie.Need-compensate-partitions-requires
+compensate-partitions-requires c κs =
+    let s = c .before .before .before .before in
+    ((place-within (s .pre .0 .2) (s .pre .0 .0) (s .pre .0 .1), s .pre .0 .2 .mode), (s .pre .1 .0, s .pre .1 .1, s .pre .0 .3))
+
+add-chroma-requires : tie.Need-add-chroma-requires
+add-chroma-requires c κs =
+    let s = c .before .before .before .before .before .before .before .before in
+    let k = coded-range (s .pre .0 .2) (c .before .before .before .before .before .if1 .left) in
+    ((place-within (s .pre .0 .2) (s .pre .0 .0) (s .pre .0 .1), s .pre .1 .2), (c .before .before .before .compensate-partitions .kept .0 ∙ s .pre .1 .0, k .pattern, k .quantiser, k .levels))
+
+returns : tie.Need-returns
+returns c =
+    let a = c .before .before .before .before .before .before .before .args in
+    c .before .before .copy-block .ensures ∙ sym (skip-chroma (a .cols) (a .rows) (a .reference .now) (recordOf (a .head) (a .vectors .now) (a .levels .now)) (a .pic .now) (a .plane) (c .before .before .before .before .if1 .taken))
+
+returns-2 : tie.Need-returns-2
+returns-2 c =
+    let a = c .before .before .before .before .before .before .before .before .before .before .before .args in
+    c .before .before .add-chroma .ensures
+    ∙ ap (λ (p : List ℕ). chromaAdded (a .plane) (a .cols) (a .head) (a .levels .now) p) (c .before .before .before .before .before .before .compensate-partitions .ensures)
+    ∙ sym (coded-chroma (a .cols) (a .rows) (a .reference .now) (recordOf (a .head) (a .vectors .now) (a .levels .now)) (a .pic .now) (a .plane) (c .before .before .before .before .before .before .before .before .if1 .left))
+
+pub apply-chroma-spec : {M : Type 1} → statement M
+apply-chroma-spec =
+    tie.close
+    (tie.spec
+    (λ c. search needs)
+    (λ c. search needs)
+    (λ c. search needs)
+    (λ c. search needs)
+    (λ c. search needs)
+    copy-block-requires
+    compensate-partitions-requires
+    add-chroma-requires
+    (λ c. c .before .before .copy-block .kept .0)
+    returns
+    (λ c. c .before .before .add-chroma .kept .0 ∙ c .before .before .before .before .before .before .compensate-partitions .kept .0)
+    returns-2)

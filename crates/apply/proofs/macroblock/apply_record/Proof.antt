@@ -1,0 +1,39 @@
+-- `apply::macroblock::apply_record`: plane after plane, then the cells.
+use lib.Dec.{lit<}
+use Rattle.apply.proofs.Macroblocks.{place-within}
+use Rattle.apply.proofs.macroblock.apply_record.Statement.{statement}
+use Rattle.apply.proofs.macroblock.apply_record.Tie as tie
+
+apply-luma-requires : tie.Need-apply-luma-requires
+apply-luma-requires c κs = let s = c .before .before .before .before .before .before .before .before in (s .pre .0, (s .pre .1 .0 .luma-right, s .pre .1 .1 .luma-right))
+
+apply-chroma-requires : tie.Need-apply-chroma-requires
+apply-chroma-requires c κs = let s = c .before .before .before .before .before .before .before .before .before .before .before .before in (s .pre .0, (s .pre .1 .0 .cb-right, s .pre .1 .1 .cb-right, lit< tt))
+
+apply-chroma-requires-2 : tie.Need-apply-chroma-requires-2
+apply-chroma-requires-2 c κs = let s = c .before .before .before .before .before .before .before .before .before .before .before .before .before .before .before .before in (s .pre .0, (s .pre .1 .0 .cr-right, s .pre .1 .1 .cr-right, lit< tt))
+
+apply-field-requires : tie.Need-apply-field-requires
+apply-field-requires c κs =
+    let s = c .before .before .before .before .before .before .before .before .before .before .before .before .before .before .before .before .before .before .before .before .before in
+    ((place-within (s .pre .0 .2) (s .pre .0 .0) (s .pre .0 .1), s .pre .0 .2 .mode), (s .pre .1 .2, s .pre .1 .3, s .pre .0 .3))
+
+returns : tie.Need-returns
+returns c =
+    let levels = c .before .before .before .before .before .before .before .before .before .before .before .before .before .before .before .before .before .before .before .before .before .before .before .before .before .args .levels .now in
+    (c .before .before .before .before .before .before .before .before .before .before .before .before .before .before .before .before .apply-luma .ensures, (c .before .before .before .before .before .before .before .before .before .before .before .before .apply-chroma .ensures, (c .before .before .before .before .before .before .before .before .apply-chroma2 .ensures, (c .before .before .before .apply-field .ensures .0 levels, c .before .before .before .apply-field .ensures .1 levels))))
+
+pub apply-record-spec : {M : Type 1} → statement M
+apply-record-spec =
+    tie.close
+    (tie.spec
+    apply-luma-requires
+    apply-chroma-requires
+    apply-chroma-requires-2
+    apply-field-requires
+    (λ c. c .before .before .before .before .before .before .before .before .before .before .before .before .before .before .before .before .apply-luma .kept .0)
+    (λ c. c .before .before .before .before .before .before .before .before .before .before .before .before .apply-chroma .kept .0)
+    (λ c. c .before .before .before .before .before .before .before .before .apply-chroma2 .kept .0)
+    (λ c. c .before .before .before .apply-field .kept .0)
+    (λ c. c .before .before .before .apply-field .kept .1 .0)
+    returns)

@@ -1,0 +1,102 @@
+// A record applied: compensation and residual to each plane, vectors and marks to the cells.
+ghost use mathlib.Core.Path.{_≡_};
+ghost use Prim.Native.Nat.{_*_, _<_, _≤_};
+ghost use lib.ListN.{length};
+ghost use Rattle.picture.specs.Picture.{lumaLength, chromaLength, cellCount, Sized};
+ghost use Rattle.predict.specs.Predict.{fieldOf};
+ghost use Rattle.record.specs.Record.{recordOf};
+ghost use Rattle.record.specs.Range.{RecordRange};
+ghost use Rattle.apply.specs.Apply.{appliedLuma, appliedChroma, appliedField};
+use crate::svq3_frame::compensate_partitions;
+use crate::svq3_picture::apply_field;
+use crate::svq3_recon::add_chroma;
+use crate::svq3_recon::add_luma;
+use picture::rows::copy_block;
+use questions::Call;
+use record::Head;
+
+pub fn apply_luma(
+    pic: &mut [u8],
+    reference: &[u8],
+    vectors: &[i32],
+    levels: &[i32],
+    cols: usize,
+    rows: usize,
+    head: Head,
+)
+    requires { ⌜ (cols ≤ 4096) × (rows ≤ 4096) × RecordRange cols rows (recordOf head (now vectors) (now levels)) × (length (now vectors) ≡ 32) × (length (now levels) ≡ 392) ⌝ }
+    requires { ⌜ (length (now pic) ≡ lumaLength cols rows) × (length (now reference) ≡ lumaLength cols rows) ⌝ }
+    ensures { λ _. ⌜ now (pic .exit) ≡ appliedLuma cols rows (now (reference .entry)) (recordOf head (now (vectors .entry)) (now (levels .entry))) (now (pic .entry)) ⌝ }
+{
+    let column = head.column;
+    let row = head.row;
+    let mode = head.mode;
+    if mode == 0 {
+        let x = 16 * (column as usize);
+        let y = 16 * (row as usize);
+        copy_block(pic, 16 * cols, x, y, 16, 16, reference);
+    } else {
+        let call = Call { column, row, mode };
+        compensate_partitions(pic, reference, vectors, cols, rows, call, false);
+        add_luma(pic, levels, cols, rows, head);
+    }
+}
+
+// A chroma plane, Cb 0 or Cr 1.
+pub fn apply_chroma(
+    pic: &mut [u8],
+    reference: &[u8],
+    vectors: &[i32],
+    levels: &[i32],
+    cols: usize,
+    rows: usize,
+    head: Head,
+    plane: usize,
+)
+    requires { ⌜ (cols ≤ 4096) × (rows ≤ 4096) × RecordRange cols rows (recordOf head (now vectors) (now levels)) × (length (now vectors) ≡ 32) × (length (now levels) ≡ 392) ⌝ }
+    requires { ⌜ (length (now pic) ≡ chromaLength cols rows) × (length (now reference) ≡ chromaLength cols rows) × (plane < 2) ⌝ }
+    ensures { λ _. ⌜ now (pic .exit) ≡ appliedChroma plane cols rows (now (reference .entry)) (recordOf head (now (vectors .entry)) (now (levels .entry))) (now (pic .entry)) ⌝ }
+{
+    let column = head.column;
+    let row = head.row;
+    let mode = head.mode;
+    if mode == 0 {
+        let x = 8 * (column as usize);
+        let y = 8 * (row as usize);
+        copy_block(pic, 8 * cols, x, y, 8, 8, reference);
+    } else {
+        let call = Call { column, row, mode };
+        compensate_partitions(pic, reference, vectors, cols, rows, call, true);
+        add_chroma(pic, levels, cols, rows, head, plane);
+    }
+}
+
+// The three planes, the vectors and the marks.
+pub fn apply_record(
+    y: &mut [u8],
+    cb: &mut [u8],
+    cr: &mut [u8],
+    mv: &mut [i32],
+    marks: &mut [u8],
+    ry: &[u8],
+    rcb: &[u8],
+    rcr: &[u8],
+    vectors: &[i32],
+    levels: &[i32],
+    cols: usize,
+    rows: usize,
+    head: Head,
+)
+    requires { ⌜ (cols ≤ 4096) × (rows ≤ 4096) × RecordRange cols rows (recordOf head (now vectors) (now levels)) × (length (now vectors) ≡ 32) × (length (now levels) ≡ 392) ⌝ }
+    requires { ⌜ Sized cols rows (length (now y)) (length (now cb)) (length (now cr)) × Sized cols rows (length (now ry)) (length (now rcb)) (length (now rcr)) × (length (now mv) ≡ 2 * cellCount cols rows) × (length (now marks) ≡ cellCount cols rows) ⌝ }
+    ensures { λ _. ⌜ now (y .exit) ≡ appliedLuma cols rows (now (ry .entry)) (recordOf head (now (vectors .entry)) (now (levels .entry))) (now (y .entry)) ⌝ }
+    ensures { λ _. ⌜ now (cb .exit) ≡ appliedChroma 0 cols rows (now (rcb .entry)) (recordOf head (now (vectors .entry)) (now (levels .entry))) (now (cb .entry)) ⌝ }
+    ensures { λ _. ⌜ now (cr .exit) ≡ appliedChroma 1 cols rows (now (rcr .entry)) (recordOf head (now (vectors .entry)) (now (levels .entry))) (now (cr .entry)) ⌝ }
+    ensures { λ _. ⌜ now (mv .exit) ≡ appliedField (recordOf head (now (vectors .entry)) (now (levels .entry))) (fieldOf cols rows (now (mv .entry)) (now (marks .entry))) .mv ⌝ }
+    ensures { λ _. ⌜ now (marks .exit) ≡ appliedField (recordOf head (now (vectors .entry)) (now (levels .entry))) (fieldOf cols rows (now (mv .entry)) (now (marks .entry))) .marks ⌝ }
+{
+    apply_luma(y, ry, vectors, levels, cols, rows, head);
+    apply_chroma(cb, rcb, vectors, levels, cols, rows, head, 0);
+    apply_chroma(cr, rcr, vectors, levels, cols, rows, head, 1);
+    apply_field(mv, marks, vectors, cols, rows, head);
+}
