@@ -1,2 +1,4 @@
 pub mod Run
+pub mod Left
 pub mod Replay
+pub mod Recorded

@@ -4,7 +4,9 @@ use mathlib.Core.Bool.{Bool}
 use mathlib.Core.List.{List, [], _∷_}
 use Prim.Native.Nat.{ℕ, _+_, _-_}
 use lib.ListN.{length, take, drop}
+use Rattle.refusal.specs.Got.{Got, got, refused}
 use Rattle.bits.specs.Bits.{bitList}
+use Rattle.calls.specs.Calls.{calls}
 use Rattle.questions.specs.Questions.{askRun}
 use Rattle.questions.specs.declared.Call.{Call}
 use Rattle.questions.specs.declared.Asked.{Asked}
@@ -53,6 +55,15 @@ stopOf (No why) = By why
 unfoldable pub ran : State → List Call → List ℕ → ℕ → List ℕ → Ran
 ran s [] bits place transcript = ended s place transcript 0 (stopOf (askRun (s .cols) (s .rows) (lengthsOf s) (s .quantiser) (length bits) place))
 ran s (call ∷ calls) bits place transcript = ranFrom s (call ∷ calls) bits place transcript 0
+
+-- of a list that was read, or refused: then nothing is done
+abbrev pub ranOf : State → Got (List Call) → List ℕ → ℕ → List ℕ → Ran
+ranOf s (got cs n) bits place transcript = ran s cs bits place transcript
+ranOf s (refused why) bits place transcript = ended s place transcript 0 (By why)
+
+-- the calls of a list, whose numbers are all read for 14 before question 1 is asked
+unfoldable pub ranList : State → List ℕ → List ℕ → ℕ → List ℕ → Ran
+ranList s list bits place transcript = ranOf s (calls list) bits place transcript
 
 -- the transcript: the bytes up to the fill
 unfoldable pub transcriptOf : Ran → List ℕ

@@ -1,5 +1,7 @@
-// A run of calls, and the replay of its transcript: what they answer.
 use refusal::Refusal;
+
+pub mod replay;
+pub mod run;
 
 // Why a run ended.
 pub enum Stop {
@@ -9,8 +11,18 @@ pub enum Stop {
     By(Refusal),
 }
 
+// What a run did: the accepted calls and the bits that they consumed, as made; then the place, the quantiser and the transcript's fill.
+pub struct Report {
+    pub accepted: usize,
+    pub consumed: usize,
+    pub place: usize,
+    pub quantiser: u32,
+    pub fill: usize,
+    pub stop: Stop,
+}
+
 pub enum ReplayAnswer {
-    // the number of records
-    Replayed(usize),
+    // the number of records, and the quantiser after them
+    Replayed(usize, u32),
     Refused(Refusal),
 }

@@ -1,4 +1,4 @@
--- REPLAY OF A RUN: whatever its start, calls, bits and place: replaying a run's transcript from that start is refused exactly when the start's own questions refuse it, with that refusal,
+-- REPLAY OF A RUN: whatever its start, list of calls, bits and place: replaying a run's transcript from that start is refused exactly when the start's own questions refuse it, with that refusal,
 -- and leaves every sample, vector, mark and the quantiser as the run left them. Nothing is asked about clipping.
 -- Assumes nothing.
 use mathlib.Core.Path.{_≡_, refl, sym, ap, _∙_, subst}
@@ -8,7 +8,7 @@ use Prim.Native.Nat.{ℕ, zero, suc, _+_, _≤_}
 use native.Mathlib.Omega.{arith}
 use lib.ListN.{length, drop, length-append}
 use lib.Seq.{drop-at}
-use Rattle.refusal.specs.Got.{Got, got, refused, after, andThen, mapGot}
+use Rattle.refusal.specs.Got.{Got, got, refused}
 use Rattle.refusal.specs.declared.Refusal.{Refusal}
 use Rattle.questions.specs.Questions.{askReplay}
 use Rattle.questions.specs.declared.Call.{Call}
@@ -16,32 +16,27 @@ use Rattle.questions.specs.declared.Asked.{Asked}
 use Rattle.questions.specs.declared.Asked.the-variants.{Yes, No}
 use Rattle.record.specs.Record.{Record}
 use Rattle.record.specs.Write.{recordBytes}
+use Rattle.record.specs.Parse.{parseRecord}
 use Rattle.record.proofs.Records.{record-format}
 use Rattle.record.proofs.Lengths.{record-some}
 use Rattle.macroblock.specs.State.{State, lengthsOf}
 use Rattle.macroblock.specs.Decode.{applied, Outcome, kept, outcomeOf, decoded}
-use Rattle.run.specs.Run.{Ran, ended, onward, ranFrom, ran, transcriptOf}
-use Rattle.run.specs.Replay.{unlessEnded, recordsIn, records, appliedAll, Replay, replayOf, unlessAsked, replayed}
+use Rattle.calls.specs.Calls.{calls}
+use Rattle.run.specs.Run.{Ran, ended, onward, ranFrom, ran, ranOf, ranList, transcriptOf}
+use Rattle.lists.proofs.Laws.{until-end, until-turn}
+use Rattle.checking.specs.Records.{recordsIn, records}
+use Rattle.run.specs.Replay.{appliedAll, Replay, replayOf, unlessAsked, replayed}
 use Rattle.run.specs.declared.ReplayAnswer.{ReplayAnswer}
 use Rattle.run.specs.declared.ReplayAnswer.the-variants.{Replayed, Refused}
 use Rattle.theorems.specs.Trace.{Path, done, step, callsOf, bytesOf}
 use Rattle.theorems.proofs.Traces.{Trace, Kind, no, yes, kind}
 use Rattle.theorems.proofs.Paths.{Ranged, none, more, path-ranged}
-use Rattle.theorems.proofs.UniqueReading.{run-trace, transcript-is}
+use Rattle.theorems.proofs.UniqueReading.{list-trace, transcript-is}
 
 -- ---- reading the bytes of records gives them back
-not-ended : (s : List ℕ) (m : Got (List Record)) → 1 ≤ length s → unlessEnded s m ≡ m
-not-ended [] m h = absurd (omega arith)
-not-ended (b ∷ s) m h = refl
-
-nothing-left : (cols rows turns : ℕ) → recordsIn cols rows turns [] ≡ got [] 0
-unfolding recordsIn
-nothing-left cols rows zero = refl
-nothing-left cols rows (suc turns) = refl
-
 records-in : {cols rows : ℕ} {rs : List Record} → Ranged cols rows rs → (turns : ℕ) → length (bytesOf rs) ≤ turns → recordsIn cols rows turns (bytesOf rs) ≡ got rs (length (bytesOf rs))
 unfolding recordsIn bytesOf
-records-in {cols} {rows} none turns h = nothing-left cols rows turns
+records-in {cols} {rows} none turns h = until-end (parseRecord cols rows) turns
 records-in (more {r = r} {rs = rs} h k x p) zero l = absurd (omega (arith, record-some r, length-append (recordBytes r) (bytesOf rs)))
 records-in {cols} {rows} (more {r = r} {rs = rs} h k x p) (suc turns) l =
     let a = recordBytes r in
@@ -49,7 +44,7 @@ records-in {cols} {rows} (more {r = r} {rs = rs} h k x p) (suc turns) l =
     let la = length-append a b in
     let i = records-in p turns (omega (arith, record-some r)) in
     let d : drop (length a) (a ++ b) ≡ b = drop-at a b (length a) refl in
-    not-ended (a ++ b) _ (omega (arith, record-some r)) ∙ rw (record-format cols rows h k .reads r b x, d, i, la)
+    until-turn (parseRecord cols rows) turns (a ++ b) (omega (arith, record-some r)) ∙ rw (record-format cols rows h k .reads r b x, d, i, la)
 
 pub records-of : {cols rows : ℕ} {rs : List Record} → Ranged cols rows rs → records cols rows (bytesOf rs) ≡ got rs (length (bytesOf rs))
 unfolding records
@@ -77,24 +72,35 @@ untouched s (call ∷ calls) bits place room why e = go (kind s call bits place 
     go (no w x) = ap (λ (o : Outcome). rest o .state) x
     go (yes r n a h x) = yes-no (a .replay) e
 
+list-untouched : (s : State) (list bits : List ℕ) (place : ℕ) (room : List ℕ) (why : Refusal) → askReplay (s .cols) (s .rows) (lengthsOf s) (s .quantiser) ≡ No why → ranList s list bits place room .state ≡ s
+unfolding ranList ended
+list-untouched s list bits place room why e = go (calls list)
+  where
+    go : (g : Got (List Call)) → ranOf s g bits place room .state ≡ s
+    go (got cs n) = untouched s cs bits place room why e
+    go (refused w) = refl
+
 -- ---- the theorem
-abbrev pub answerOf : Asked → ℕ → ReplayAnswer
-answerOf Yes n = Replayed n
-answerOf (No why) n = Refused why
+abbrev pub answerOf : Asked → ℕ → ℕ → ReplayAnswer
+answerOf Yes n q = Replayed n q
+answerOf (No why) n q = Refused why
 
 count-of : (rs : List Record) → length (callsOf rs) ≡ length rs
 unfolding callsOf
 count-of [] = refl
 count-of (r ∷ rs) = ap suc (count-of rs)
 
-pub replay_of_run : (s : State) (calls : List Call) (bits : List ℕ) (place : ℕ) (room : List ℕ) → let r = ran s calls bits place room in
-    replayed s (transcriptOf r) ≡ record { answer = answerOf (askReplay (s .cols) (s .rows) (lengthsOf s) (s .quantiser)) (length (r .accepted)); state = r .state }
+pub replay_of_run : (s : State) (list bits : List ℕ) (place : ℕ) (room : List ℕ) → let r = ranList s list bits place room in
+    replayed s (transcriptOf r) ≡ record { answer = answerOf (askReplay (s .cols) (s .rows) (lengthsOf s) (s .quantiser)) (length (r .accepted)) (r .state .quantiser); state = r .state }
 unfolding replayed replayOf
-replay_of_run s calls bits place room = go (askReplay (s .cols) (s .rows) (lengthsOf s) (s .quantiser)) refl
+replay_of_run s list bits place room = go (askReplay (s .cols) (s .rows) (lengthsOf s) (s .quantiser)) refl
   where
+    r : Ran
+    r = ranList s list bits place room
+
     go : (a : Asked) → askReplay (s .cols) (s .rows) (lengthsOf s) (s .quantiser) ≡ a
-        → unlessAsked a s (replayOf s (records (s .cols) (s .rows) (transcriptOf (ran s calls bits place room)))) ≡ record { answer = answerOf a (length (ran s calls bits place room .accepted)); state = ran s calls bits place room .state }
-    go (No why) e = ap (λ (t : State). record { answer = Refused why; state = t }) (sym (untouched s calls bits place room why e))
+        → unlessAsked a s (replayOf s (records (s .cols) (s .rows) (transcriptOf r))) ≡ record { answer = answerOf a (length (r .accepted)) (r .state .quantiser); state = r .state }
+    go (No why) e = ap (λ (t : State). record { answer = Refused why; state = t }) (sym (list-untouched s list bits place room why e))
     go Yes e =
-        let x = run-trace s calls bits place room in
+        let x = list-trace s list bits place room in
         rw (transcript-is x, records-of (path-ranged (x .path)), path-applied (x .path), x .calls, count-of (x .rs))

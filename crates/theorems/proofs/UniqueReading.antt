@@ -1,4 +1,4 @@
--- UNIQUE READING: for any two runs from one start, whatever their calls, bits, places and transcript room, and also where a refused call stops one or both:
+-- UNIQUE READING: for any two runs from one start, whatever their lists of calls, bits, places and transcript room, and also where a refused call stops one or both:
 -- if no accepted call of either clips a component, their accepted calls and consumed bits are equal exactly when their transcripts are.
 -- Assumes nothing.
 use mathlib.Core.Path.{_≡_, refl, sym, ap, _∙_, subst}
@@ -10,7 +10,9 @@ use lib.ListN.{take, drop}
 use Rattle.bits.specs.Bits.{bitList}
 use Rattle.questions.specs.declared.Call.{Call}
 use Rattle.macroblock.specs.State.{State}
-use Rattle.run.specs.Run.{Ran, ended, ran, transcriptOf, consumed}
+use Rattle.refusal.specs.Got.{Got, got, refused}
+use Rattle.calls.specs.Calls.{calls}
+use Rattle.run.specs.Run.{Ran, ended, ran, ranOf, ranList, transcriptOf, consumed}
 use Rattle.record.specs.Record.{Record}
 use Rattle.theorems.specs.Trace.{Path, callsOf, bytesOf, clipsOf}
 use Rattle.theorems.proofs.Traces.{Trace, trace, no-call}
@@ -20,6 +22,15 @@ pub run-trace : (s : State) (calls : List Call) (bits : List ℕ) (place : ℕ) 
 unfolding ran
 run-trace s [] bits place t = no-call s bits place t 0 _
 run-trace s (call ∷ calls) bits place t = trace s (call ∷ calls) bits place t 0
+
+-- of a list that is refused, and of one that is not
+pub list-trace : (s : State) (list bits : List ℕ) (place : ℕ) (t : List ℕ) → Trace s bits place t 0 (ranList s list bits place t)
+unfolding ranList
+list-trace s list bits place t = go (calls list)
+  where
+    go : (g : Got (List Call)) → Trace s bits place t 0 (ranOf s g bits place t)
+    go (got cs n) = run-trace s cs bits place t
+    go (refused why) = no-call s bits place t 0 _
 
 module _ {s : State} {bits : List ℕ} {place : ℕ} {t : List ℕ} {r : Ran} (x : Trace s bits place t 0 r) where
   pub transcript-is : transcriptOf r ≡ bytesOf (x .rs)
@@ -44,13 +55,13 @@ module _ {s : State} {bits bits′ : List ℕ} {place place′ : ℕ} {t t′ : 
       (x .calls ∙ ap callsOf rs ∙ sym (y .calls), consumed-is x ∙ same-bits (x .path) q (sym (x .clips) ∙ c) ∙ sym (consumed-is y))
 
 pub unique_reading : (s : State)
-    → (calls : List Call) (bits : List ℕ) (place : ℕ) (room : List ℕ)
-    → (calls′ : List Call) (bits′ : List ℕ) (place′ : ℕ) (room′ : List ℕ)
-    → let r = ran s calls bits place room in
-    let r′ = ran s calls′ bits′ place′ room′ in
+    → (list bits : List ℕ) (place : ℕ) (room : List ℕ)
+    → (list′ bits′ : List ℕ) (place′ : ℕ) (room′ : List ℕ)
+    → let r = ranList s list bits place room in
+    let r′ = ranList s list′ bits′ place′ room′ in
     r .clipped ≡ 0 → r′ .clipped ≡ 0
     → ((r .accepted ≡ r′ .accepted) × (consumed bits place r ≡ consumed bits′ place′ r′)) ↔ (transcriptOf r ≡ transcriptOf r′)
-unique_reading s calls bits place room calls′ bits′ place′ room′ c c′ =
-    let x = run-trace s calls bits place room in
-    let y = run-trace s calls′ bits′ place′ room′ in
+unique_reading s list bits place room list′ bits′ place′ room′ c c′ =
+    let x = list-trace s list bits place room in
+    let y = list-trace s list′ bits′ place′ room′ in
     (same-transcript x y, same-reading x y c)

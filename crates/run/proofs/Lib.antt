@@ -1,0 +1,4 @@
+pub mod Laws
+pub mod Whole
+pub mod Records
+pub mod Replays

@@ -1,0 +1,111 @@
+// The replay of a transcript.
+ghost use mathlib.Core.Path.{_≡_};
+ghost use Prim.Native.Nat.{_*_, _≤_};
+ghost use lib.ListN.{length};
+ghost use Rattle.picture.specs.Picture.{Sized, cellCount};
+ghost use Rattle.macroblock.specs.Entry.{stateOf};
+ghost use Rattle.run.specs.Replay.{replayed, replayLeft};
+ghost use Rattle.run.specs.Recorded.{Recorded, allLeft};
+use crate::ReplayAnswer;
+use apply::macroblock::apply_record;
+use checking::CheckAnswer;
+use checking::check_records;
+use macroblock::svq3_frame::Frame;
+use macroblock::svq3_frame::quantiser_after;
+use questions::Asked;
+use questions::Lengths;
+use questions::ask_replay;
+use transcript::parse::ParseAnswer;
+use transcript::parse::parse_record;
+
+// The work of all records of a transcript that passed the check; answers the quantiser afterwards.
+fn replay_records(
+    y: &mut [u8],
+    cb: &mut [u8],
+    cr: &mut [u8],
+    mv: &mut [i32],
+    marks: &mut [u8],
+    ry: &[u8],
+    rcb: &[u8],
+    rcr: &[u8],
+    bytes: &[u8],
+    frame: Frame,
+    quantiser: u32,
+) -> u32
+    requires { ⌜ (frame .cols ≤ 4096) × (frame .rows ≤ 4096) × Recorded (frame .cols) (frame .rows) (now bytes) ⌝ }
+    requires { ⌜ Sized (frame .cols) (frame .rows) (length (now y)) (length (now cb)) (length (now cr)) × Sized (frame .cols) (frame .rows) (length (now ry)) (length (now rcb)) (length (now rcr)) × (length (now mv) ≡ 2 * cellCount (frame .cols) (frame .rows)) × (length (now marks) ≡ cellCount (frame .cols) (frame .rows)) ⌝ }
+    ensures { λ r. ⌜ stateOf frame r (now (ry .entry)) (now (rcb .entry)) (now (rcr .entry)) (now (y .exit)) (now (cb .exit)) (now (cr .exit)) (now (mv .exit)) (now (marks .exit)) ≡ allLeft (stateOf frame quantiser (now (ry .entry)) (now (rcb .entry)) (now (rcr .entry)) (now (y .entry)) (now (cb .entry)) (now (cr .entry)) (now (mv .entry)) (now (marks .entry))) (now (bytes .entry)) ⌝ }
+{
+    let mut vectors = [0i32; 32];
+    let mut levels = [0i32; 392];
+    let mut q = quantiser;
+    let mut at = 0;
+    while at < bytes.len() {
+        let ParseAnswer::Parsed(head, next) = parse_record(
+            &mut vectors,
+            &mut levels,
+            bytes,
+            at,
+            frame.cols,
+            frame.rows,
+        ) else {
+            return q;
+        };
+        apply_record(
+            y,
+            cb,
+            cr,
+            mv,
+            marks,
+            ry,
+            rcb,
+            rcr,
+            &vectors,
+            &levels,
+            frame.cols as usize,
+            frame.rows as usize,
+            head,
+        );
+        q = quantiser_after(q, head);
+        at = next;
+    }
+    q
+}
+
+// Reads a transcript from a start and does each record's work: all records are checked before anything changes.
+pub fn replay(
+    y: &mut [u8],
+    cb: &mut [u8],
+    cr: &mut [u8],
+    mv: &mut [i32],
+    marks: &mut [u8],
+    ry: &[u8],
+    rcb: &[u8],
+    rcr: &[u8],
+    bytes: &[u8],
+    frame: Frame,
+    quantiser: u32,
+) -> ReplayAnswer
+    ensures { λ r. ⌜ replayLeft r frame quantiser (now (ry .entry)) (now (rcb .entry)) (now (rcr .entry)) (now (y .exit)) (now (cb .exit)) (now (cr .exit)) (now (mv .exit)) (now (marks .exit)) ≡ replayed (stateOf frame quantiser (now (ry .entry)) (now (rcb .entry)) (now (rcr .entry)) (now (y .entry)) (now (cb .entry)) (now (cr .entry)) (now (mv .entry)) (now (marks .entry))) (now (bytes .entry)) ⌝ }
+{
+    let l = Lengths {
+        y: y.len(),
+        cb: cb.len(),
+        cr: cr.len(),
+        mv: mv.len(),
+        marks: marks.len(),
+        ry: ry.len(),
+        rcb: rcb.len(),
+        rcr: rcr.len(),
+    };
+    match ask_replay(frame.cols, frame.rows, l, quantiser) {
+        Asked::Yes => match check_records(bytes, frame.cols, frame.rows) {
+            CheckAnswer::Records(n) => {
+                let q = replay_records(y, cb, cr, mv, marks, ry, rcb, rcr, bytes, frame, quantiser);
+                ReplayAnswer::Replayed(n, q)
+            }
+            CheckAnswer::Refused(why) => ReplayAnswer::Refused(why),
+        },
+        Asked::No(why) => ReplayAnswer::Refused(why),
+    }
+}
