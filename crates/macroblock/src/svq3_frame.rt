@@ -9,7 +9,7 @@ ghost use Rattle.macroblock.specs.State.{lengthsOf};
 ghost use Rattle.macroblock.specs.Decode.{decoded};
 ghost use Rattle.macroblock.specs.Entry.{stateOf, quantiserBy, left, cursorBy};
 use crate::MbAnswer;
-use apply::macroblock::apply_record;
+use apply::applied::apply_record;
 use questions::Asked;
 use questions::Call;
 use questions::Lengths;

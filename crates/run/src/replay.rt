@@ -7,7 +7,7 @@ ghost use Rattle.macroblock.specs.Entry.{stateOf};
 ghost use Rattle.run.specs.Replay.{replayed, replayLeft};
 ghost use Rattle.run.specs.Recorded.{Recorded, allLeft};
 use crate::ReplayAnswer;
-use apply::macroblock::apply_record;
+use apply::applied::apply_record;
 use checking::CheckAnswer;
 use checking::check_records;
 use macroblock::svq3_frame::Frame;

@@ -15,7 +15,7 @@ use Rattle.run.proofs.replay.replay_records.Statement.{statement}
 use Rattle.run.proofs.replay.replay_records.Tie as tie
 use Rattle.run.proofs.replay.replay_records.Reads as reads
 use Rattle.run.proofs.replay.replay_records.Lts as lts
-use Rattle.apply.proofs.macroblock.apply_record.Reads as apply-record-reads
+use Rattle.apply.proofs.applied.apply_record.Reads as apply-record-reads
 use Rattle.macroblock.proofs.svq3_frame.quantiser_after.Reads as quantiser-after-reads
 use Rattle.transcript.proofs.parse.parse_record.Reads as parse-record-reads
 

@@ -1,8 +1,8 @@
--- `apply::macroblock::apply_record`: plane after plane, then the cells.
+-- `apply::applied::apply_record`: plane after plane, then the cells.
 use lib.Dec.{lit<}
 use Rattle.apply.proofs.Macroblocks.{place-within}
-use Rattle.apply.proofs.macroblock.apply_record.Statement.{statement}
-use Rattle.apply.proofs.macroblock.apply_record.Tie as tie
+use Rattle.apply.proofs.applied.apply_record.Statement.{statement}
+use Rattle.apply.proofs.applied.apply_record.Tie as tie
 
 apply-luma-requires : tie.Need-apply-luma-requires
 apply-luma-requires c κs = let s = c .before .before .before .before .before .before .before .before in (s .pre .0, (s .pre .1 .0 .luma-right, s .pre .1 .1 .luma-right))

@@ -1,4 +1,4 @@
--- `apply::macroblock::apply_chroma`: a skip, or compensation and then the residual.
+-- `apply::applied::apply_chroma`: a skip, or compensation and then the residual.
 use mathlib.Core.Path.{sym, ap, _∙_}
 use mathlib.Core.List.{List}
 use Prim.Native.Nat.{ℕ}
@@ -8,8 +8,8 @@ use Rattle.picture.proofs.Laws.{plane-inside}
 use Rattle.record.specs.Record.{recordOf}
 use Rattle.apply.specs.Apply.{chromaAdded}
 use Rattle.apply.proofs.Macroblocks.{skip-chroma, coded-chroma, place-within, coded-range}
-use Rattle.apply.proofs.macroblock.apply_chroma.Statement.{statement}
-use Rattle.apply.proofs.macroblock.apply_chroma.Tie as tie
+use Rattle.apply.proofs.applied.apply_chroma.Statement.{statement}
+use Rattle.apply.proofs.applied.apply_chroma.Tie as tie
 
 copy-block-requires : tie.Need-copy-block-requires
 copy-block-requires c κs =
