@@ -15,7 +15,7 @@ use Rattle.predict.specs.Predict.{Field, fieldOf}
 use Rattle.predict.specs.Stored.{storedVectors, storedMarks, storedField}
 use Rattle.predict.proofs.Following.{part-of, partition-cells}
 use Rattle.questions.specs.declared.Call.{Call}
-use Rattle.record.specs.Record.{Record}
+use Rattle.record.specs.Record.{Record, skipRecord}
 use Rattle.reading.specs.Read.{cellX, cellY, cellsWide, cellsHigh, storedAt}
 use Rattle.reading.specs.Bits.{callOf}
 use Rattle.apply.specs.Apply.{vectorX, vectorY, storedUpTo, appliedField}
@@ -55,3 +55,12 @@ skip-field r f e = rw (eq-eqb (r .head .mode) 0 e)
 pub coded-field : (r : Record) (f : Field) → r .head .mode ≢ 0 → appliedField r f ≡ storedUpTo (numMotionVectors (r .head .mode)) (callOf r) (r .vectors) f
 unfolding appliedField if_then_else_
 coded-field r f e = rw (ne-eqb (r .head .mode) 0 e)
+
+-- a skip, by its place
+pub skipped-mv : (cols rows column row : ℕ) (mv : List ℤ) (marks : List ℕ) → appliedField (skipRecord column row) (fieldOf cols rows mv marks) .mv ≡ storedVectors mv (4 * cols) (4 * column) (4 * row) 4 4 (pos 0) (pos 0)
+unfolding skipRecord storedField
+skipped-mv cols rows column row mv marks = ap (λ (f : Field). f .mv) (skip-field (skipRecord column row) (fieldOf cols rows mv marks) refl)
+
+pub skipped-marks : (cols rows column row : ℕ) (mv : List ℤ) (marks : List ℕ) → appliedField (skipRecord column row) (fieldOf cols rows mv marks) .marks ≡ storedMarks marks (4 * cols) (4 * column) (4 * row) 4 4
+unfolding skipRecord storedField
+skipped-marks cols rows column row mv marks = ap (λ (f : Field). f .marks) (skip-field (skipRecord column row) (fieldOf cols rows mv marks) refl)

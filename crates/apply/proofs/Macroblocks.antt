@@ -1,6 +1,6 @@
 -- What a record does to a plane, by its mode; and what its range lets the parts of it require.
 -- Assumes nothing.
-use mathlib.Core.Path.{_≡_}
+use mathlib.Core.Path.{_≡_, refl}
 use mathlib.Core.Logic.{_≢_}
 use mathlib.Core.List.{List}
 use Prim.Native.Nat.{ℕ, _*_, _≤_}
@@ -9,7 +9,7 @@ use borrow.Author.Tests.{eq-eqb, ne-eqb}
 use Rattle.ints.specs.Z.{if_then_else_}
 use Rattle.picture.specs.Picture.{copied, Within}
 use Rattle.vectors.specs.Modes.{numMotionVectors}
-use Rattle.record.specs.Record.{Record}
+use Rattle.record.specs.Record.{Record, skipRecord}
 use Rattle.record.specs.Range.{RecordRange, CodedRange}
 use Rattle.reading.specs.Bits.{callOf}
 use Rattle.apply.specs.Apply.{movedUpTo, lumaUpTo, chromaAdded, appliedLuma, appliedChroma}
@@ -38,3 +38,12 @@ module _ {cols rows : ℕ} {r : Record} (range : RecordRange cols rows r) where
 
   pub coded-range : r .head .mode ≢ 0 → CodedRange r
   coded-range e = range .coded (omega arith)
+
+-- a skip, by its place
+pub skipped-luma : (cols rows : ℕ) (ref : List ℕ) (column row : ℕ) (pic : List ℕ) → appliedLuma cols rows ref (skipRecord column row) pic ≡ copied pic (16 * cols) (16 * column) (16 * row) 16 16 ref
+unfolding skipRecord
+skipped-luma cols rows ref column row pic = skip-luma cols rows ref (skipRecord column row) pic refl
+
+pub skipped-chroma : (plane cols rows : ℕ) (ref : List ℕ) (column row : ℕ) (pic : List ℕ) → appliedChroma plane cols rows ref (skipRecord column row) pic ≡ copied pic (8 * cols) (8 * column) (8 * row) 8 8 ref
+unfolding skipRecord
+skipped-chroma plane cols rows ref column row pic = skip-chroma cols rows ref (skipRecord column row) pic plane refl

@@ -2,9 +2,9 @@
 ghost use mathlib.Core.Path.{_≡_};
 ghost use Prim.Native.Nat.{_*_, _<_, _≤_};
 ghost use lib.ListN.{length};
-ghost use Rattle.picture.specs.Picture.{lumaLength, chromaLength, cellCount, Sized};
+ghost use Rattle.picture.specs.Picture.{lumaLength, chromaLength, cellCount, Sized, Within};
 ghost use Rattle.predict.specs.Predict.{fieldOf};
-ghost use Rattle.record.specs.Record.{recordOf};
+ghost use Rattle.record.specs.Record.{recordOf, skipRecord};
 ghost use Rattle.record.specs.Range.{RecordRange};
 ghost use Rattle.apply.specs.Apply.{appliedLuma, appliedChroma, appliedField};
 use crate::svq3_frame::compensate_partitions;
@@ -12,6 +12,8 @@ use crate::svq3_picture::apply_field;
 use crate::svq3_recon::add_chroma;
 use crate::svq3_recon::add_luma;
 use picture::rows::copy_block;
+use picture::svq3_picture::copy_macroblock_from;
+use predict::svq3_frame::mark_macroblock;
 use questions::Call;
 use record::Head;
 
@@ -99,4 +101,31 @@ pub fn apply_record(
     apply_chroma(cb, rcb, vectors, levels, cols, rows, head, 0);
     apply_chroma(cr, rcr, vectors, levels, cols, rows, head, 1);
     apply_field(mv, marks, vectors, cols, rows, head);
+}
+
+// The same of a skipped macroblock: its three blocks are copied.
+pub fn apply_skip(
+    y: &mut [u8],
+    cb: &mut [u8],
+    cr: &mut [u8],
+    mv: &mut [i32],
+    marks: &mut [u8],
+    ry: &[u8],
+    rcb: &[u8],
+    rcr: &[u8],
+    cols: usize,
+    rows: usize,
+    column: usize,
+    row: usize,
+)
+    requires { ⌜ Within cols rows column row ⌝ }
+    requires { ⌜ Sized cols rows (length (now y)) (length (now cb)) (length (now cr)) × Sized cols rows (length (now ry)) (length (now rcb)) (length (now rcr)) × (length (now mv) ≡ 2 * cellCount cols rows) × (length (now marks) ≡ cellCount cols rows) ⌝ }
+    ensures { λ _. ⌜ now (y .exit) ≡ appliedLuma cols rows (now (ry .entry)) (skipRecord column row) (now (y .entry)) ⌝ }
+    ensures { λ _. ⌜ now (cb .exit) ≡ appliedChroma 0 cols rows (now (rcb .entry)) (skipRecord column row) (now (cb .entry)) ⌝ }
+    ensures { λ _. ⌜ now (cr .exit) ≡ appliedChroma 1 cols rows (now (rcr .entry)) (skipRecord column row) (now (cr .entry)) ⌝ }
+    ensures { λ _. ⌜ now (mv .exit) ≡ appliedField (skipRecord column row) (fieldOf cols rows (now (mv .entry)) (now (marks .entry))) .mv ⌝ }
+    ensures { λ _. ⌜ now (marks .exit) ≡ appliedField (skipRecord column row) (fieldOf cols rows (now (mv .entry)) (now (marks .entry))) .marks ⌝ }
+{
+    copy_macroblock_from(y, cb, cr, ry, rcb, rcr, cols, rows, column, row);
+    mark_macroblock(mv, marks, cols, column, row);
 }

@@ -15,7 +15,8 @@ use Rattle.ints.specs.Z.{if_then_else_}
 use Rattle.number.specs.Number.{number}
 use Rattle.number.specs.SignedNumber.{signedNumber}
 use Rattle.vectors.specs.Modes.{numMotionVectors}
-use Rattle.record.specs.Record.{Record}
+use Rattle.record.specs.Record.{Record, skipRecord}
+use Rattle.record.proofs.Lengths.{record-length}
 use Rattle.record.specs.Items.{itemCoded, itemStart, itemCount, itemPlace, itemLevels, writeLists}
 use Rattle.record.specs.Write.{signedNumbers, itemBytes, itemsBytes, restBytes, recordBytes}
 use Rattle.transcript.specs.Answers.{Written}
@@ -161,3 +162,14 @@ skip-rest r e = when-true (eqb (r .head .mode) 0) [] (restBytes r) (eq-eqb (r .h
 
 pub coded-rest : (r : Record) → (r .head .mode ≡ 0 → ⊥) → (if eqb (r .head .mode) 0 then [] else restBytes r) ≡ restBytes r
 coded-rest r e = when-false (eqb (r .head .mode) 0) [] (restBytes r) (ne-eqb (r .head .mode) 0 e)
+
+-- a skip: its place and mode 0
+pub skip-parts : (column row : ℕ) → recordBytes (skipRecord column row) ≡ joined (number column ∷ number row ∷ number 0 ∷ [])
+unfolding skipRecord if_then_else_
+skip-parts column row = record-parts (skipRecord column row)
+
+pub skip-length : (column row : ℕ) → column < 4096 → row < 4096 → length (recordBytes (skipRecord column row)) ≤ 2089
+unfolding skipRecord
+skip-length column row h k =
+    record-length (skipRecord column row)
+    (record { column = h; row = k; mode = omega arith; precision = omega arith; clipped = omega arith; pattern = omega arith; quantiser = omega arith })

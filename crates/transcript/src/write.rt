@@ -3,7 +3,7 @@ ghost use mathlib.Core.Path.{_≡_};
 ghost use Prim.Native.Nat.{_+_, _≤_, _<_};
 ghost use lib.ListN.{length, take, drop};
 ghost use Rattle.record.specs.Write.{signedNumbers, itemsBytes, restBytes, recordBytes};
-ghost use Rattle.record.specs.Record.{recordOf};
+ghost use Rattle.record.specs.Record.{recordOf, skipRecord};
 ghost use Rattle.transcript.specs.Answers.{Written};
 ghost use Rattle.record.specs.Range.{HeadRange};
 use number::put_number;
@@ -87,4 +87,14 @@ pub fn put_record(out: &mut [u8], vectors: &[i32], levels: &[i32], at: usize, he
         return p;
     }
     put_rest(out, vectors, levels, p, head)
+}
+
+// The same of a skipped macroblock, which has a place and a mode alone.
+pub fn put_skip(out: &mut [u8], at: usize, column: u32, row: u32) -> usize
+    requires { ⌜ (column < 4096) × (row < 4096) × (at + 2089 ≤ length (now out)) ⌝ }
+    ensures { λ r. ⌜ Written (now (out .entry)) at (recordBytes (skipRecord column row)) r (now (out .exit)) ⌝ }
+{
+    let p = put_number(out, at, column);
+    let p = put_number(out, p, row);
+    put_number(out, p, 0)
 }

@@ -1,0 +1,31 @@
+-- `apply::applied::apply_skip`: the three blocks copied, the cells marked.
+use mathlib.Core.Path.{sym, ap, _∙_}
+use Prim.Native.Nat.{ℕ, _*_}
+use native.Mathlib.Omega.{arith}
+use borrow.Author.Needs.{needs}
+use Rattle.predict.proofs.Following.{macroblock-cells}
+use Rattle.apply.proofs.Macroblocks.{skipped-luma, skipped-chroma}
+use Rattle.apply.proofs.Fields.{skipped-mv, skipped-marks}
+use Rattle.apply.proofs.applied.apply_skip.Statement.{statement}
+use Rattle.apply.proofs.applied.apply_skip.Tie as tie
+
+copy-macroblock-from-requires : tie.Need-copy-macroblock-from-requires
+copy-macroblock-from-requires c κs = let s = c .before .before .before .before .before .before .before .before .before .before in (s .pre .0, (s .pre .1 .0, s .pre .1 .1))
+
+mark-macroblock-requires : tie.Need-mark-macroblock-requires
+mark-macroblock-requires c κs = let s = c .before .before .before .before .before .before .before .before .before .before .before .before .before .before .before .before .before .before .before in (s .pre .0 .wide, s .pre .1 .2 ∙ ap (λ (n : ℕ). 2 * n) (sym (s .pre .1 .3)), macroblock-cells (s .pre .0) (s .pre .1 .3))
+
+returns : tie.Need-returns
+returns c =
+    let s = c .before .before .before .before .before .before .before .before .before .before .before .before .before .before .before .before .before .before .before .before .before .before .before in
+    let a = s .args in
+    let p = c .before .before .before .before .before .before .before .before .before .before .before .before .copy-macroblock-from .ensures in
+    let m = c .before .before .before .mark-macroblock .ensures in
+    (p .0 ∙ sym (skipped-luma (a .cols) (a .rows) (a .ry .now) (a .column) (a .row) (a .y .now)), (
+    p .1 .0 ∙ sym (skipped-chroma 0 (a .cols) (a .rows) (a .rcb .now) (a .column) (a .row) (a .cb .now)), (
+    p .1 .1 ∙ sym (skipped-chroma 1 (a .cols) (a .rows) (a .rcr .now) (a .column) (a .row) (a .cr .now)), (
+    m .0 ∙ sym (skipped-mv (a .cols) (a .rows) (a .column) (a .row) (a .mv .now) (a .marks .now)),
+    m .1 ∙ sym (skipped-marks (a .cols) (a .rows) (a .column) (a .row) (a .mv .now) (a .marks .now))))))
+
+pub apply-skip-spec : {M : Type 1} → statement M
+apply-skip-spec = tie.close (tie.spec copy-macroblock-from-requires mark-macroblock-requires (λ c. search needs) (λ c. search needs) (λ c. search needs) (λ c. search needs) (λ c. search needs) returns)
