@@ -5,6 +5,7 @@ use mathlib.Core.List.{List}
 use Prim.Native.Nat.{ℕ, _+_, _-_, _≤_}
 use native.Mathlib.Omega.{arith}
 use lib.Dec.{eqb}
+use borrow.Author.Tests.{eq-eqb}
 use lib.IntN.{ℤ}
 use lib.ListN.{length, drop}
 use lib.Seq.{sets}
@@ -18,7 +19,7 @@ use Rattle.questions.specs.declared.Call.{Call}
 use Rattle.questions.specs.declared.Asked.{Asked}
 use Rattle.questions.specs.declared.Asked.the-variants.{Yes, No}
 use Rattle.questions.proofs.Yes.{Called, call-yes}
-use Rattle.record.specs.Record.{Record, recordOf}
+use Rattle.record.specs.Record.{Record, recordOf, skipRecord}
 use Rattle.record.specs.Range.{RecordRange, HeadRange}
 use Rattle.record.specs.Write.{recordBytes}
 use Rattle.record.specs.declared.Head.{Head}
@@ -94,6 +95,21 @@ module _ (s : State) (call : Call) (bits : List ℕ) (place : ℕ) (transcript :
         → left (Refused why) s transcript ≡ decoded s call bits place transcript fill
     unfolding outcomeOf
     not-read answer why vs ls r is = on (refused why) (read-refused place found why vs ls (rw is at r))
+
+    -- ---- a skip: nothing is read
+    pub skipped : call .mode ≡ 0 → (filled : ℕ) (y cb cr : List ℕ) (mv : List ℤ) (marks bytes : List ℕ)
+        → Written transcript fill (recordBytes (skipRecord (call .column) (call .row))) filled bytes
+        → y ≡ appliedLuma (s .cols) (s .rows) (s .ry) (skipRecord (call .column) (call .row)) (s .y)
+        → cb ≡ appliedChroma 0 (s .cols) (s .rows) (s .rcb) (skipRecord (call .column) (call .row)) (s .cb)
+        → cr ≡ appliedChroma 1 (s .cols) (s .rows) (s .rcr) (skipRecord (call .column) (call .row)) (s .cr)
+        → mv ≡ appliedField (skipRecord (call .column) (call .row)) (fieldOf s) .mv
+        → marks ≡ appliedField (skipRecord (call .column) (call .row)) (fieldOf s) .marks
+        → left (Accepted place (s .quantiser) filled 0) (changed s (s .quantiser) y cb cr mv marks) bytes ≡ decoded s call bits place transcript fill
+    unfolding outcomeOf applied quantiserAfter skipRecord readMacroblock if_then_else_
+    skipped m filled y cb cr mv marks bytes w ey ecb ecr em ek =
+        let e : found ≡ got (skipRecord (call .column) (call .row)) 0 = rw (eq-eqb (call .mode) 0 m) in
+        let p : place ≡ place + 0 = omega arith in
+        (λ i. left (Accepted (p i) (s .quantiser) (w .moved i) 0) (changed s (s .quantiser) (ey i) (ecb i) (ecr i) (em i) (ek i)) (w .leaves i)) ∙ on (got (skipRecord (call .column) (call .row)) 0) e
 
     -- ---- a record was read
     module _ (answer : ReadAnswer) (h : Head) (next : ℕ) (vs ls : List ℤ) (r : Reading place found answer vs ls) (is : answer ≡ read.Read h next) where

@@ -10,6 +10,7 @@ ghost use Rattle.macroblock.specs.Decode.{decoded};
 ghost use Rattle.macroblock.specs.Entry.{stateOf, quantiserBy, left, cursorBy};
 use crate::MbAnswer;
 use apply::applied::apply_record;
+use apply::applied::apply_skip;
 use questions::Asked;
 use questions::Call;
 use questions::Lengths;
@@ -19,6 +20,7 @@ use reading::svq3_frame::ReadAnswer;
 use reading::svq3_frame::read_macroblock;
 use record::Head;
 use transcript::write::put_record;
+use transcript::write::put_skip;
 
 // What a run has fixed: the grid and the flags.
 pub struct Frame {
@@ -51,8 +53,8 @@ pub fn quantiser_after(quantiser: u32, head: Head) -> u32
     }
 }
 
-// A call whose questions were all answered with yes.
-fn decode_asked(
+// One that is no skip: read, then written and applied.
+fn decode_coded(
     y: &mut [u8],
     cb: &mut [u8],
     cr: &mut [u8],
@@ -110,6 +112,106 @@ fn decode_asked(
             MbAnswer::Accepted(next, quantiser_after(quantiser, head), filled, head.clipped)
         }
         ReadAnswer::Refused(why) => MbAnswer::Refused(why),
+    }
+}
+
+// A skip reads nothing: its blocks are copied, and its record is its place and its mode.
+fn decode_skip(
+    y: &mut [u8],
+    cb: &mut [u8],
+    cr: &mut [u8],
+    mv: &mut [i32],
+    marks: &mut [u8],
+    transcript: &mut [u8],
+    ry: &[u8],
+    rcb: &[u8],
+    rcr: &[u8],
+    bits: &[u8],
+    frame: Frame,
+    call: Call,
+    quantiser: u32,
+    place: usize,
+    fill: usize,
+) -> MbAnswer
+    requires { ⌜ askCall (frame .cols) (frame .rows) (lengthsOf (stateOf frame quantiser (now ry) (now rcb) (now rcr) (now y) (now cb) (now cr) (now mv) (now marks))) call quantiser (length (now bits)) place (length (now transcript) - fill) ≡ Asked.Yes ⌝ }
+    requires { ⌜ call .mode ≡ 0 ⌝ }
+    ensures { λ r. ⌜ left r (stateOf frame (quantiserBy quantiser r) (now (ry .entry)) (now (rcb .entry)) (now (rcr .entry)) (now (y .exit)) (now (cb .exit)) (now (cr .exit)) (now (mv .exit)) (now (marks .exit))) (now (transcript .exit)) ≡ decoded (stateOf frame quantiser (now (ry .entry)) (now (rcb .entry)) (now (rcr .entry)) (now (y .entry)) (now (cb .entry)) (now (cr .entry)) (now (mv .entry)) (now (marks .entry))) call (now (bits .entry)) place (now (transcript .entry)) fill ⌝ }
+{
+    let filled = put_skip(transcript, fill, call.column, call.row);
+    apply_skip(
+        y,
+        cb,
+        cr,
+        mv,
+        marks,
+        ry,
+        rcb,
+        rcr,
+        frame.cols as usize,
+        frame.rows as usize,
+        call.column as usize,
+        call.row as usize,
+    );
+    MbAnswer::Accepted(place, quantiser, filled, 0)
+}
+
+// A call whose questions were all answered with yes.
+fn decode_asked(
+    y: &mut [u8],
+    cb: &mut [u8],
+    cr: &mut [u8],
+    mv: &mut [i32],
+    marks: &mut [u8],
+    transcript: &mut [u8],
+    ry: &[u8],
+    rcb: &[u8],
+    rcr: &[u8],
+    bits: &[u8],
+    frame: Frame,
+    call: Call,
+    quantiser: u32,
+    place: usize,
+    fill: usize,
+) -> MbAnswer
+    requires { ⌜ askCall (frame .cols) (frame .rows) (lengthsOf (stateOf frame quantiser (now ry) (now rcb) (now rcr) (now y) (now cb) (now cr) (now mv) (now marks))) call quantiser (length (now bits)) place (length (now transcript) - fill) ≡ Asked.Yes ⌝ }
+    ensures { λ r. ⌜ left r (stateOf frame (quantiserBy quantiser r) (now (ry .entry)) (now (rcb .entry)) (now (rcr .entry)) (now (y .exit)) (now (cb .exit)) (now (cr .exit)) (now (mv .exit)) (now (marks .exit))) (now (transcript .exit)) ≡ decoded (stateOf frame quantiser (now (ry .entry)) (now (rcb .entry)) (now (rcr .entry)) (now (y .entry)) (now (cb .entry)) (now (cr .entry)) (now (mv .entry)) (now (marks .entry))) call (now (bits .entry)) place (now (transcript .entry)) fill ⌝ }
+{
+    if call.mode == 0 {
+        decode_skip(
+            y,
+            cb,
+            cr,
+            mv,
+            marks,
+            transcript,
+            ry,
+            rcb,
+            rcr,
+            bits,
+            frame,
+            call,
+            quantiser,
+            place,
+            fill,
+        )
+    } else {
+        decode_coded(
+            y,
+            cb,
+            cr,
+            mv,
+            marks,
+            transcript,
+            ry,
+            rcb,
+            rcr,
+            bits,
+            frame,
+            call,
+            quantiser,
+            place,
+            fill,
+        )
     }
 }
 

@@ -1,4 +1,4 @@
--- `decode_asked`: what yes to the questions tells is what reading asks, and what is read is what writing and applying ask.
+-- `decode_coded`: what yes to the questions tells is what reading asks, and what is read is what writing and applying ask.
 use mathlib.Core.Path.{refl}
 use mathlib.Core.List.{List}
 use native.Mathlib.Omega.{arith}
@@ -12,8 +12,8 @@ use Rattle.macroblock.specs.State.{State}
 use Rattle.macroblock.specs.Entry.{stateOf}
 use Rattle.macroblock.proofs.Laws as laws
 use borrow.Author.Needs.{needs}
-use Rattle.macroblock.proofs.svq3_frame.decode_asked.Statement.{statement}
-use Rattle.macroblock.proofs.svq3_frame.decode_asked.Tie as tie
+use Rattle.macroblock.proofs.svq3_frame.decode_coded.Statement.{statement}
+use Rattle.macroblock.proofs.svq3_frame.decode_coded.Tie as tie
 
 -- ---- the state at entry
 abbrev S : tie.Start → State
@@ -79,8 +79,8 @@ returns-2 c =
     let s = c .before .before .before .before .before .before .before .before .before .before .before .before .before .before .before .before .before .before .before .before .before .before in
     laws.not-read (S s) (s .args .call) (now (s .args .bits)) (s .args .place) (now (s .args .transcript)) (s .args .fill) (s .pre) _ _ _ _ (c .before .before .before .before .before .read-macroblock .ensures) (c .before .why .given .1)
 
-pub decode-asked-spec : {M : Type 1} → statement M
-decode-asked-spec =
+pub decode-coded-spec : {M : Type 1} → statement M
+decode-coded-spec =
     tie.close
     (tie.spec
     (λ c. search needs)
