@@ -2,7 +2,10 @@
 ghost use mathlib.Core.Path.{_≡_};
 ghost use lib.ListN.{length};
 ghost use Rattle.compensation.specs.Block.{blockAnswer, blockOut};
-ghost use Rattle.desk.specs.Answer.{blockCode};
+ghost use Rattle.checking.specs.Check.{checked};
+ghost use Rattle.desk.specs.Answer.{blockCode, sideOf, checkCode};
+use checking::CheckAnswer;
+use checking::check_transcript;
 use compensation::svq3_mc::BlockAnswer;
 use compensation::svq3_mc::motion_compensate_block;
 use refusal::number_of;
@@ -47,4 +50,22 @@ pub extern "C" fn svq3_compensate_block(
         vy,
     );
     block_code(answer)
+}
+
+// A side of the grid that 32 bits do not hold is past 4,096, and 0 is refused as it would be.
+fn side(n: u64) -> u32
+    ensures { λ r. ⌜ r ≡ sideOf n ⌝ }
+{
+    if n <= 0xffff_ffff { n as u32 } else { 0 }
+}
+
+// The number of records of a transcript for a grid, or minus the refusal's number.
+#[no_mangle]
+pub extern "C" fn svq3_check_transcript(cols: u64, rows: u64, bytes: &[u8]) -> i64
+    ensures { λ r. ⌜ r ≡ checkCode (checked cols rows (now (bytes .entry))) ⌝ }
+{
+    match check_transcript(bytes, side(cols), side(rows)) {
+        CheckAnswer::Records(n) => n as i64,
+        CheckAnswer::Refused(why) => -(number_of(why) as i64),
+    }
 }

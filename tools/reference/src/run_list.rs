@@ -38,7 +38,7 @@ fn query(draw: &mut Draw) -> String {
     format!("run {} {} {} {place} {calls}", join(head, " "), join(start, " "), hex(&bits))
 }
 
-fn vectors(draw: &mut Draw, cells: u32) -> String {
+pub fn vectors(draw: &mut Draw, cells: u32) -> String {
     match draw.below(3) {
         0 => "zero".into(),
         1 => format!("seed:{}", draw.word()),
@@ -47,7 +47,7 @@ fn vectors(draw: &mut Draw, cells: u32) -> String {
 }
 
 /// A stored component: small, anywhere, or at a limit.
-fn component(draw: &mut Draw) -> i32 {
+pub fn component(draw: &mut Draw) -> i32 {
     match draw.below(4) {
         0 => draw.word() as i32,
         1 => draw.pick(&[i32::MIN, i32::MIN + 1, -1, 0, 1, i32::MAX - 1, i32::MAX]),
@@ -55,7 +55,7 @@ fn component(draw: &mut Draw) -> i32 {
     }
 }
 
-fn marks(draw: &mut Draw, cells: u32) -> String {
+pub fn marks(draw: &mut Draw, cells: u32) -> String {
     match draw.below(4) {
         0 => "fill:0".into(),
         1 => "fill:1".into(),
@@ -65,24 +65,24 @@ fn marks(draw: &mut Draw, cells: u32) -> String {
 }
 
 /// Bits as they are written, and the quantiser that they lead to.
-struct Film<'a> {
-    flags: u32,
-    delta_enable: bool,
-    quantiser: i32,
-    bits: Bits,
-    draw: &'a mut Draw,
+pub struct Film<'a> {
+    pub flags: u32,
+    pub delta_enable: bool,
+    pub quantiser: i32,
+    pub bits: Bits,
+    pub draw: &'a mut Draw,
 }
 
 impl Film<'_> {
-    fn code(&mut self, k: u32) {
+    pub fn code(&mut self, k: u32) {
         self.bits = std::mem::take(&mut self.bits).code(k);
     }
 
-    fn signed(&mut self, value: i32) {
+    pub fn signed(&mut self, value: i32) {
         self.code(if value > 0 { 2 * value.unsigned_abs() - 1 } else { 2 * value.unsigned_abs() });
     }
 
-    fn macroblock(&mut self, mode: u32) {
+    pub fn macroblock(&mut self, mode: u32) {
         if mode == 0 {
             return;
         }
@@ -93,6 +93,11 @@ impl Film<'_> {
         }
         let most = if self.draw.below(60) == 0 { 60 } else { 48 };
         let code = self.draw.below(most);
+        self.residual(code);
+    }
+
+    /// A pattern's code and what it asks for.
+    pub fn residual(&mut self, code: u32) {
         self.code(code);
         let pattern = INTER_CBP_TABLE.get(code as usize).copied().unwrap_or(0);
         if pattern != 0 && self.delta_enable {
@@ -102,7 +107,7 @@ impl Film<'_> {
     }
 
     /// The selector: no bit without a flag, and a second one only behind a 1 with both flags.
-    fn precision(&mut self) {
+    pub fn precision(&mut self) {
         let (first, second) = (self.draw.bit(), self.draw.bit());
         match self.flags {
             0 => {}
@@ -112,7 +117,7 @@ impl Film<'_> {
     }
 
     /// A difference up to a limit of 32 bits, mostly small.
-    fn difference(&mut self) {
+    pub fn difference(&mut self) {
         let value = match self.draw.below(40) {
             0 => self.draw.pick(&[-i32::MAX, 1 - i32::MAX, i32::MAX - 1, i32::MAX]),
             1 => (self.draw.word() as i32).max(-i32::MAX),
@@ -123,7 +128,7 @@ impl Film<'_> {
     }
 
     /// To a quantiser in range, mostly; else just past it or as far as a code goes.
-    fn delta(&mut self) {
+    pub fn delta(&mut self) {
         let delta = match self.draw.below(40) {
             0 => self.draw.pick(&[-1 - self.quantiser, 32 - self.quantiser, -i32::MAX, i32::MAX, i32::MAX - 9]),
             1..10 => 0,
@@ -133,7 +138,7 @@ impl Film<'_> {
         self.quantiser = self.quantiser.saturating_add(delta).clamp(0, 31);
     }
 
-    fn lists(&mut self, pattern: u8) {
+    pub fn lists(&mut self, pattern: u8) {
         let class = pattern / 16;
         for _ in 0..4 * (pattern % 16).count_ones() {
             self.list(ResidualBook::NormalScan, 16);
@@ -147,7 +152,7 @@ impl Film<'_> {
     }
 
     /// Some levels within a list's room, seldom one past it, and the end code.
-    fn list(&mut self, book: ResidualBook, mut room: u32) {
+    pub fn list(&mut self, book: ResidualBook, mut room: u32) {
         let most = if self.draw.below(20) == 0 { 17 } else { 4 };
         for _ in 0..self.draw.below(most) {
             let code = match self.draw.below(60) {
@@ -165,7 +170,7 @@ impl Film<'_> {
     }
 
     /// One film in six ends early, has a bit turned, or goes on with bits that nobody wrote.
-    fn damage(&mut self, from: usize) {
+    pub fn damage(&mut self, from: usize) {
         let length = self.bits.len();
         if length == from {
             return;

@@ -1,0 +1,85 @@
+-- Each entry by its test of the counts' length: over plain lists and numbers.
+-- Assumes nothing.
+use mathlib.Core.Path.{_≡_, ap, _∙_}
+use mathlib.Core.List.{List}
+use Prim.Native.Nat.{ℕ, _≤_, _<_}
+use borrow.Author.Tests.{lt-ltb, le-ltb}
+use lib.IntN.{ℤ, pos, negsuc}
+use lib.ListN.{length}
+use lib.Seq.{sets}
+use Rattle.ints.specs.Z.{if_then_else_}
+use Rattle.questions.specs.declared.Call.{Call}
+use Rattle.macroblock.specs.State.{State}
+use Rattle.macroblock.specs.Decode.{decoded}
+use Rattle.macroblock.specs.Entry.{stateOf, left, quantiserBy}
+use Rattle.macroblock.specs.declared.svq3_frame.Frame.{Frame}
+use Rattle.macroblock.specs.declared.MbAnswer.{MbAnswer}
+use Rattle.run.specs.Left.{leftOf, listLeft}
+use Rattle.run.specs.Replay.{replayLeft, replayed}
+use Rattle.run.specs.declared.Report.{Report}
+use Rattle.run.specs.declared.ReplayAnswer.{ReplayAnswer}
+use Rattle.acceptance.specs.Told.{mbTold, runTold, replayTold}
+use Rattle.acceptance.specs.Entries.{Slices, Ended, ended, startOf, five, two, telling, unlessShort, mbTelling, runTelling, replayTelling, mbEnded, runEnded, replayEnded}
+use Rattle.acceptance.specs.declared.Told.{Told}
+
+too-short : (n : ℕ) (s : Slices) (done : Ended) → length (s .counts) < n → record { code = negsuc 0; slices = s } ≡ unlessShort n s done
+unfolding if_then_else_
+too-short n s done h = rw (lt-ltb _ _ h)
+
+long-enough : (n : ℕ) (s : Slices) (done : Ended) → n ≤ length (s .counts) → done ≡ unlessShort n s done
+unfolding if_then_else_
+long-enough n s done h = rw (le-ltb _ _ h)
+
+-- what is told, as the code has it
+tells : (w : Told → List ℕ) (s : State) (transcript counts : List ℕ) {code : ℤ} {t u : Told} {after : List ℕ} → code ≡ pos (t .code) → t ≡ u → after ≡ sets counts 0 (w t)
+    → ended code (s .y) (s .cb) (s .cr) (s .mv) (s .marks) transcript after ≡ telling u s transcript counts (w u)
+tells w s transcript counts c e a =
+    (λ i. ended (c i) (s .y) (s .cb) (s .cr) (s .mv) (s .marks) transcript (a i)) ∙ ap (λ (x : Told). telling x s transcript counts (w x)) e
+
+module _ (frame : Frame) (q : ℕ) (ry rcb rcr : List ℕ) (s : Slices) where
+  abbrev start : State
+  start = startOf frame q ry rcb rcr s
+
+  pub mb-short : (call : Call) (bits : List ℕ) (place fill : ℕ) → length (s .counts) < 5 → record { code = negsuc 0; slices = s } ≡ mbEnded start s call bits place fill
+  unfolding mbEnded
+  mb-short call bits place fill h = too-short 5 s _ h
+
+  pub run-short : (calls bits : List ℕ) (place : ℕ) → length (s .counts) < 5 → record { code = negsuc 0; slices = s } ≡ runEnded start s calls bits place
+  unfolding runEnded
+  run-short calls bits place h = too-short 5 s _ h
+
+  pub replay-short : length (s .counts) < 2 → record { code = negsuc 0; slices = s } ≡ replayEnded start s
+  unfolding replayEnded
+  replay-short h = too-short 2 s _ h
+
+  module _ (f : Frame) (is : f ≡ frame) (y cb cr : List ℕ) (mv : List ℤ) (marks transcript counts : List ℕ) (code : ℤ) (t : Told) (told : code ≡ pos (t .code)) where
+    module _ (written : counts ≡ sets (s .counts) 0 (five t)) (enough : 5 ≤ length (s .counts)) where
+      pub mb-done : (call : Call) (bits : List ℕ) (place fill : ℕ) (answer : MbAnswer)
+          → left answer (stateOf f (quantiserBy q answer) ry rcb rcr y cb cr mv marks) transcript ≡ decoded (startOf f q ry rcb rcr s) call bits place (s .transcript) fill
+          → t ≡ mbTold answer place q fill
+          → ended code y cb cr mv marks transcript counts ≡ mbEnded start s call bits place fill
+      unfolding mbEnded
+      mb-done call bits place fill answer e m =
+          tells five (stateOf f (quantiserBy q answer) ry rcb rcr y cb cr mv marks) transcript (s .counts) told m written
+          ∙ ap (mbTelling place q fill (s .counts)) (e ∙ ap (λ (g : Frame). decoded (startOf g q ry rcb rcr s) call bits place (s .transcript) fill) is)
+          ∙ long-enough 5 s _ enough
+
+      pub run-done : (calls bits : List ℕ) (place : ℕ) (r : Report)
+          → leftOf r f ry rcb rcr y cb cr mv marks transcript ≡ listLeft (startOf f q ry rcb rcr s) calls bits place (s .transcript)
+          → t ≡ runTold r
+          → ended code y cb cr mv marks transcript counts ≡ runEnded start s calls bits place
+      unfolding runEnded
+      run-done calls bits place r e m =
+          tells five (stateOf f (r .quantiser) ry rcb rcr y cb cr mv marks) transcript (s .counts) told m written
+          ∙ ap (runTelling (s .counts)) (e ∙ ap (λ (g : Frame). listLeft (startOf g q ry rcb rcr s) calls bits place (s .transcript)) is)
+          ∙ long-enough 5 s _ enough
+
+    pub replay-done : counts ≡ sets (s .counts) 0 (two t) → 2 ≤ length (s .counts) → (r : ReplayAnswer)
+        → replayLeft r f q ry rcb rcr y cb cr mv marks ≡ replayed (startOf f q ry rcb rcr s) (s .transcript)
+        → t ≡ replayTold r q
+        → ended code y cb cr mv marks (s .transcript) counts ≡ replayEnded start s
+    unfolding replayEnded
+    replay-done written enough r e m =
+        tells two (replayLeft r f q ry rcb rcr y cb cr mv marks .state) (s .transcript) (s .counts) told m written
+        ∙ ap (replayTelling q (s .transcript) (s .counts)) (e ∙ ap (λ (g : Frame). replayed (startOf g q ry rcb rcr s) (s .transcript)) is)
+        ∙ long-enough 2 s _ enough

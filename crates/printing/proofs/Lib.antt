@@ -1,0 +1,9 @@
+pub mod Headers
+pub mod Texts
+pub mod Lines
+pub mod Lists
+pub mod Runs
+pub mod Starts
+pub mod Inputs
+pub mod Examples
+pub mod Room

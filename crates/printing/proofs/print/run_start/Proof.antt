@@ -1,0 +1,49 @@
+-- `printing::print::run_start`: parts of the buffers make the start.
+use Prim.Native.Nat.{ℕ, _*_, _≤_}
+use native.Mathlib.Omega.{arith}
+use lib.IntN.{pos}
+use Rattle.printing.proofs.Starts.{grid-most, part-length, left-from}
+use borrow.Author.Needs.{needs}
+use Rattle.printing.proofs.print.run_start.Statement.{statement}
+use Rattle.printing.proofs.print.run_start.Tie as tie
+
+abbrev macroblocks : tie.Start → ℕ
+macroblocks s = s .args .h .cols * s .args .h .rows
+
+few : (s : tie.Start) → macroblocks s ≤ 16
+few s = grid-most (s .args .h) (s .pre)
+
+returns : tie.Need-returns
+returns c = let s = c .before .before .before .before .before .before .before .before .before .before .before .before .before .before .before .before .before .before .before .before .before .before .before in left-from (s .args .h) (s .pre) (c .before .before .before .before .before .before .before .before .frame-of .ensures) (s .args .list .now) (s .args .bits .now) (s .args .transcript .now) (c .before .before .before .before .before .before .before .run .ensures)
+
+pub run-start-spec : {M : Type 1} → statement M
+run-start-spec =
+    tie.close
+    (tie.spec
+    (λ c. search needs)
+    (λ c. search needs)
+    (λ c. omega (arith, few (c .before .before .before .before .before)))
+    (λ c. omega (arith, few (c .before .before .before .before .before)))
+    (λ c. omega (arith, few (c .before .before .before .before .before)))
+    (λ c. omega (arith, few (c .before .before .before .before .before)))
+    (λ c. omega (arith, few (c .before .before .before .before .before)))
+    (λ c. omega (arith, few (c .before .before .before .before .before)))
+    (λ c. part-length (256 * macroblocks (c .before .before .before .before .before .before)) 4096 0 (omega (arith, few (c .before .before .before .before .before .before))))
+    (λ c. omega (arith, few (c .before .before .before .before .before .before)))
+    (λ c. part-length (64 * macroblocks (c .before .before .before .before .before .before .before)) 1024 0 (omega (arith, few (c .before .before .before .before .before .before .before))))
+    (λ c. omega (arith, few (c .before .before .before .before .before .before .before)))
+    (λ c. part-length (64 * macroblocks (c .before .before .before .before .before .before .before .before)) 1024 0 (omega (arith, few (c .before .before .before .before .before .before .before .before))))
+    (λ c. omega (arith, few (c .before .before .before .before .before .before .before .before)))
+    (λ c. part-length (32 * macroblocks (c .before .before .before .before .before .before .before .before .before)) 512 (pos 0) (omega (arith, few (c .before .before .before .before .before .before .before .before .before))))
+    (λ c. omega (arith, few (c .before .before .before .before .before .before .before .before .before)))
+    (λ c. part-length (16 * macroblocks (c .before .before .before .before .before .before .before .before .before .before)) 256 0 (omega (arith, few (c .before .before .before .before .before .before .before .before .before .before))))
+    (λ c. omega (arith, few (c .before .before .before .before .before .before .before .before .before .before .before)))
+    (λ c. part-length (256 * macroblocks (c .before .before .before .before .before .before .before .before .before .before .before .before)) 4096 128 (omega (arith, few (c .before .before .before .before .before .before .before .before .before .before .before .before))))
+    (λ c. omega (arith, few (c .before .before .before .before .before .before .before .before .before .before .before .before)))
+    (λ c. part-length (64 * macroblocks (c .before .before .before .before .before .before .before .before .before .before .before .before .before)) 1024 128 (omega (arith, few (c .before .before .before .before .before .before .before .before .before .before .before .before .before))))
+    (λ c. omega (arith, few (c .before .before .before .before .before .before .before .before .before .before .before .before .before)))
+    (λ c. part-length (64 * macroblocks (c .before .before .before .before .before .before .before .before .before .before .before .before .before .before)) 1024 128 (omega (arith, few (c .before .before .before .before .before .before .before .before .before .before .before .before .before .before))))
+    (λ c κs. search needs)
+    (λ c κs. search needs)
+    (λ c. search needs)
+    returns)

@@ -1,0 +1,178 @@
+// The run of an input, and what is printed of it.
+ghost use mathlib.Core.Path.{_≡_};
+ghost use mathlib.Core.List.{_++_};
+ghost use Prim.Native.Nat.{_+_, _*_, _≤_, _^_, _<_};
+ghost use lib.ListN.{length, take};
+ghost use Rattle.checking.specs.Records.{records};
+ghost use Rattle.transcript.specs.Answers.{Written};
+ghost use Rattle.run.specs.Run.{ranList};
+ghost use Rattle.run.specs.Left.{listLeft};
+ghost use Rattle.run.specs.Recorded.{Recorded};
+ghost use Rattle.printing.specs.Header.{HeaderRange};
+ghost use Rattle.printing.specs.Text.{bitsLine};
+ghost use Rattle.printing.specs.Print.{frameOf, start, room, linesOf, stopLines, printedRun, printed};
+use crate::header::Header;
+use crate::header::HeaderAnswer;
+use crate::header::ListEnd;
+use crate::header::read_header;
+use crate::header::read_list;
+use crate::text::put_bits;
+use crate::text::put_hex_line;
+use crate::text::put_refused;
+use macroblock::svq3_frame::Frame;
+use reading::svq3_frame::Flags;
+use run::Report;
+use run::Stop;
+use run::run::run;
+use transcript::parse::ParseAnswer;
+use transcript::parse::parse_record;
+
+// The records of a transcript, each on a line.
+fn put_records(out: &mut [u8], transcript: &[u8], at: usize, cols: u32, rows: u32) -> usize
+    requires { ⌜ (cols ≤ 4096) × (rows ≤ 4096) × Recorded cols rows (now transcript) ⌝ }
+    requires { ⌜ at + length (linesOf (records cols rows (now transcript))) ≤ length (now out) ⌝ }
+    ensures { λ r. ⌜ Written (now (out .entry)) at (linesOf (records cols rows (now (transcript .entry)))) r (now (out .exit)) ⌝ }
+{
+    // each record is read into these and forgotten
+    let mut vectors = [0i32; 32];
+    let mut levels = [0i32; 392];
+    let mut p = at;
+    let mut i = 0;
+    while i < transcript.len() {
+        let ParseAnswer::Parsed(_, next) = parse_record(
+            &mut vectors,
+            &mut levels,
+            transcript,
+            i,
+            cols,
+            rows,
+        ) else {
+            return p;
+        };
+        p = put_hex_line(out, &transcript[i..next], p);
+        i = next;
+    }
+    p
+}
+
+fn put_stop(out: &mut [u8], at: usize, stop: Stop) -> usize
+    requires { ⌜ at + length (stopLines stop) ≤ length (now out) ⌝ }
+    ensures { λ r. ⌜ Written (now (out .entry)) at (stopLines stop) r (now (out .exit)) ⌝ }
+{
+    match stop {
+        Stop::Done => at,
+        Stop::By(why) => put_refused(out, at, why),
+    }
+}
+
+// What a run did: its records, its bits, and the refusal that stopped it.
+fn put_run(
+    out: &mut [u8],
+    transcript: &[u8],
+    cols: u32,
+    rows: u32,
+    consumed: usize,
+    stop: Stop,
+) -> usize
+    requires { ⌜ (cols ≤ 4096) × (rows ≤ 4096) × Recorded cols rows (now transcript) ⌝ }
+    requires { ⌜ (length (now transcript) ≤ 33424) × (length (now out) ≡ 100352) ⌝ }
+    ensures { λ r. ⌜ (r ≤ 100352) × Written (now (out .entry)) 0 (linesOf (records cols rows (now (transcript .entry))) ++ bitsLine consumed ++ stopLines stop) r (now (out .exit)) ⌝ }
+{
+    let p = put_records(out, transcript, 0, cols, rows);
+    let p = put_bits(out, p, consumed);
+    put_stop(out, p, stop)
+}
+
+// Flags are 1 half + 2 third.
+fn frame_of(h: Header) -> Frame
+    ensures { λ r. ⌜ r ≡ frameOf h ⌝ }
+{
+    Frame {
+        cols: h.cols,
+        rows: h.rows,
+        flags: Flags {
+            halfpel: h.flags % 2 == 1,
+            thirdpel: h.flags / 2 == 1,
+            delta: h.delta == 1,
+        },
+    }
+}
+
+// The run of a list from the printer's start.
+fn run_start(transcript: &mut [u8], list: &[u8], bits: &[u8], h: Header) -> Report
+    requires { ⌜ HeaderRange h ⌝ }
+    ensures { λ r. ⌜ (r ≡ listLeft (start h) (now (list .entry)) (now (bits .entry)) 0 (now (transcript .entry)) .report) × (now (transcript .exit) ≡ listLeft (start h) (now (list .entry)) (now (bits .entry)) 0 (now (transcript .entry)) .transcript) ⌝ }
+{
+    let mut y = [0u8; 4096];
+    let mut cb = [0u8; 1024];
+    let mut cr = [0u8; 1024];
+    let mut mv = [0i32; 512];
+    let mut marks = [0u8; 256];
+    let ry = [128u8; 4096];
+    let rcb = [128u8; 1024];
+    let rcr = [128u8; 1024];
+    let n = (h.cols as usize) * (h.rows as usize);
+    let luma = 256 * n;
+    let chroma = 64 * n;
+    let numbers = 32 * n;
+    let cells = 16 * n;
+    run(
+        &mut y[..luma],
+        &mut cb[..chroma],
+        &mut cr[..chroma],
+        &mut mv[..numbers],
+        &mut marks[..cells],
+        transcript,
+        &ry[..luma],
+        &rcb[..chroma],
+        &rcr[..chroma],
+        bits,
+        list,
+        frame_of(h),
+        h.quantiser,
+        0,
+    )
+}
+
+// The run of a list, printed.
+fn print_list(out: &mut [u8], list: &[u8], bits: &[u8], h: Header) -> usize
+    requires { ⌜ HeaderRange h × (length (now out) ≡ 100352) ⌝ }
+    ensures { λ r. ⌜ (r ≤ 100352) × Written (now (out .entry)) 0 (printedRun (start h) (ranList (start h) (now (list .entry)) (now (bits .entry)) 0 room)) r (now (out .exit)) ⌝ }
+{
+    let mut transcript = [0u8; 33424];
+    let report = run_start(&mut transcript, list, bits, h);
+    let fill = report.fill;
+    let stop = report.stop;
+    put_run(
+        out,
+        &transcript[..fill],
+        h.cols,
+        h.rows,
+        report.consumed,
+        stop,
+    )
+}
+
+// The whole input, printed.
+fn print_input(out: &mut [u8], input: &[u8]) -> usize
+    requires { ⌜ length (now out) ≡ 100352 ⌝ }
+    ensures { λ r. ⌜ (r ≤ 100352) × Written (now (out .entry)) 0 (printed (now (input .entry))) r (now (out .exit)) ⌝ }
+{
+    match read_header(input) {
+        HeaderAnswer::Header(h, at) => match read_list(input, at, h.count) {
+            ListEnd::At(end) => print_list(out, &input[at..end], &input[end..], h),
+            ListEnd::Refused(why) => put_refused(out, 0, why),
+        },
+        HeaderAnswer::Refused(why) => put_refused(out, 0, why),
+    }
+}
+
+// What the printer prints, written to the start of `out`: its length. Input past 32,768 bytes is absent.
+pub fn print(out: &mut [u8; 100352], input: &[u8]) -> usize
+    ensures { λ r. ⌜ (r ≤ 100352) × Written (now (out .entry)) 0 (printed (take 32768 (now (input .entry)))) r (now (out .exit)) ⌝ }
+{
+    if input.len() <= 32768 {
+        return print_input(out, input);
+    }
+    print_input(out, &input[..32768])
+}
