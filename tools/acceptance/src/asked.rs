@@ -3,7 +3,7 @@
 use crate::case::Case;
 use crate::compare::RECORD;
 use crate::draw::Draw;
-use crate::ours::{BEFORE, Start, call_list};
+use crate::ours::{BEFORE, Start, Told, call_list};
 use crate::tally::Tally;
 
 /// What one call is given besides the start.
@@ -22,7 +22,8 @@ fn start_question(s: &Start) -> i64 {
         return 1;
     }
     let n = (s.cols * s.rows) as usize;
-    let sized = |planes: &[Vec<u8>; 3]| planes[0].len() == 256 * n && planes[1].len() == 64 * n && planes[2].len() == 64 * n;
+    let sized =
+        |planes: &[Vec<u8>; 3]| planes[0].len() == 256 * n && planes[1].len() == 64 * n && planes[2].len() == 64 * n;
     if !sized(&s.picture) || s.mv.len() != 32 * n || s.marks.len() != 16 * n {
         return 2;
     }
@@ -68,55 +69,86 @@ pub fn wrong_start(case: &Case, draw: &mut Draw, tally: &mut Tally) -> Result<()
     if case.run.columns * case.run.rows > 16 {
         return Ok(());
     }
-    let mut s = Start::of(&case.run, RECORD);
+    let mut start = Start::of(&case.run, RECORD);
     let call = case.calls.first().copied().unwrap_or([0, 0, 1]);
     let mut given = Given { call, bits: case.run.bits.len(), place: case.run.place, fill: 0 };
-    let mut wrong = Vec::new();
-    for _ in 0..1 + draw.below(3) {
-        wrong.push(spoil(&mut s, &mut given, draw));
-    }
-    let bits = &case.run.bits;
-    let about = format!("with {} wrong: {given:?}, {} by {}, quantiser {}", wrong.join(", "), s.cols, s.rows, s.quantiser);
-    let entry = |name: &str, due: i64, code: i64, kept: bool| {
-        if code == due && kept { Ok(()) } else { Err(format!("{name} answers {code} where {due} is due, or changes something: {about}\n{}", case.line)) }
-    };
-
-    let due = call_question(&s, &given);
-    if due != 0 {
-        let mut ours = s.clone();
-        let told = ours.macroblock(given.call, bits, given.place, given.fill, 5);
-        let counts = [given.place, s.quantiser.into(), given.fill, 0, 0];
-        entry("svq3_macroblock", due, told.code, ours == s && told.counts == counts)?;
-        tally.add("refused by a question", format!("{due} of a call"));
-    }
-    if due != 0 && given.fill == 0 {
-        // the same as the first call of a run, a second call behind it
-        let mut ours = s.clone();
-        let told = ours.run(&call_list(&[given.call, [0, 0, 0]]), bits, given.place, 5);
-        entry("svq3_run", due, told.code, ours == s && told.counts == [0, 0, 0, s.quantiser.into(), 0])?;
-        tally.add("refused by a question", format!("{due} of a run"));
-    }
-    let due = empty_run_question(&s, &given);
-    let mut ours = s.clone();
-    let told = ours.run(&[], bits, given.place, 5);
-    entry("svq3_run without a call", due, told.code, ours == s && told.counts == [0, 0, 0, s.quantiser.into(), 0])?;
-    tally.add("refused by a question", format!("{due} of a run with no call"));
-    // 14 comes before question 1
-    let told = ours.run(&[0, 0, 1, 0x80], bits, given.place, 5);
-    entry("svq3_run of a list out of form", 14, told.code, ours == s && told.counts == [0, 0, 0, s.quantiser.into(), 0])?;
-    let due = quantiser_question(&s);
-    let told = ours.replay(&[], 2);
-    entry("svq3_replay", due, told.code, ours == s && told.counts == [0, s.quantiser.into()])?;
-    tally.add("refused by a question", format!("{due} of a replay"));
+    let wrong: Vec<&str> = (0..1 + draw.below(3)).map(|_| spoil(&mut start, &mut given, draw)).collect();
+    let asked = Asked { case, start: &start, given: &given };
+    asked.call(tally).and_then(|()| asked.others(tally)).map_err(|what| {
+        let Start { cols, rows, quantiser, .. } = &start;
+        format!("{what}, with {wrong:?} wrong: {given:?}, {cols} by {rows}, quantiser {quantiser}\n{}", case.line)
+    })?;
     short_counts(case, draw, tally)
 }
 
+struct Asked<'a> {
+    case: &'a Case,
+    start: &'a Start,
+    given: &'a Given,
+}
+
+impl Asked<'_> {
+    /// An entry's answer: the number that is due, counts as due, and nothing changed.
+    fn is(&self, entry: &str, due: i64, told: Told, counts: &[u64], left: &Start) -> Result<(), String> {
+        if told.code == due && told.counts == counts && left == self.start {
+            return Ok(());
+        }
+        let kept = if left == self.start { "nothing" } else { "something" };
+        Err(format!("{entry} answers {told:?} where {due} and {counts:?} are due, {kept} changed"))
+    }
+
+    /// One call, and the same as the first of a run.
+    fn call(&self, tally: &mut Tally) -> Result<(), String> {
+        let (given, quantiser, bits) = (self.given, self.start.quantiser.into(), &self.case.run.bits);
+        let due = call_question(self.start, given);
+        if due == 0 {
+            return Ok(());
+        }
+        let mut left = self.start.clone();
+        let told = left.macroblock(given.call, bits, given.place, given.fill, 5);
+        self.is("svq3_macroblock", due, told, &[given.place, quantiser, given.fill, 0, 0], &left)?;
+        tally.add("first question answered with no (0 none)", format!("{due} of a call"));
+        if given.fill == 0 {
+            let told = left.run(&call_list(&[given.call, [0, 0, 0]]), bits, given.place, 5);
+            self.is("svq3_run", due, told, &[0, 0, 0, quantiser, 0], &left)?;
+            tally.add("first question answered with no (0 none)", format!("{due} of a run"));
+        }
+        Ok(())
+    }
+
+    /// A run with no call, one whose list is out of form, and a replay of nothing.
+    fn others(&self, tally: &mut Tally) -> Result<(), String> {
+        let (given, quantiser, bits) = (self.given, self.start.quantiser.into(), &self.case.run.bits);
+        let mut left = self.start.clone();
+        let due = empty_run_question(self.start, given);
+        let told = left.run(&[], bits, given.place, 5);
+        self.is("svq3_run without a call", due, told, &[0, 0, 0, quantiser, 0], &left)?;
+        tally.add("first question answered with no (0 none)", format!("{due} of a run with no call"));
+        // 14 comes before question 1
+        let told = left.run(&[0, 0, 1, 0x80], bits, given.place, 5);
+        self.is("svq3_run of a list out of form", 14, told, &[0, 0, 0, quantiser, 0], &left)?;
+        let due = quantiser_question(self.start);
+        let told = left.replay(&[], 2);
+        self.is("svq3_replay", due, told, &[0, quantiser], &left)?;
+        tally.add("first question answered with no (0 none)", format!("{due} of a replay"));
+        Ok(())
+    }
+}
+
 /// One thing of the start or of what is given, drawn.
-fn spoil(s: &mut Start, given: &mut Given, draw: &mut Draw) -> &'static str {
-    match draw.below(10) {
+fn spoil(start: &mut Start, given: &mut Given, draw: &mut Draw) -> &'static str {
+    if draw.below(10) < 6 { spoil_start(start, draw) } else { spoil_given(start, given, draw) }
+}
+
+fn spoil_start(s: &mut Start, draw: &mut Draw) -> &'static str {
+    match draw.below(6) {
         0 => {
             let side = draw.pick(&[0, 4097, 1 << 32, (1 << 32) + 1, u64::MAX, 4096, 2]);
-            if draw.bit() { s.cols = side } else { s.rows = side }
+            if draw.bit() {
+                s.cols = side
+            } else {
+                s.rows = side
+            }
             "the grid"
         }
         1 => {
@@ -124,7 +156,7 @@ fn spoil(s: &mut Start, given: &mut Given, draw: &mut Draw) -> &'static str {
             "a picture plane"
         }
         2 => {
-            let length = if draw.bit() { s.mv.len() + 1 } else { s.mv.len() - 1 };
+            let length = if draw.bit() { s.mv.len() + 1 } else { s.mv.len().saturating_sub(1) };
             s.mv.resize(length, 0);
             "the vectors"
         }
@@ -136,20 +168,25 @@ fn spoil(s: &mut Start, given: &mut Given, draw: &mut Draw) -> &'static str {
             s.reference.iter_mut().for_each(Vec::clear);
             "every reference plane"
         }
-        5 => {
+        _ => {
             another_length(&mut s.reference[draw.below(3) as usize], draw);
             "a reference plane"
         }
-        6 => {
+    }
+}
+
+fn spoil_given(s: &mut Start, given: &mut Given, draw: &mut Draw) -> &'static str {
+    match draw.below(4) {
+        0 => {
             let most = draw.pick(&[0, 4, 7, 8, 255, u32::MAX]);
             given.call[draw.below(3) as usize] = most;
             "the call"
         }
-        7 => {
+        1 => {
             s.quantiser = draw.pick(&[31, 32, 33, 255, u32::MAX]);
             "the quantiser"
         }
-        8 => {
+        2 => {
             let total = 8 * given.bits as u64;
             given.place = draw.pick(&[total, total + 1, total + 8, u64::MAX, 1 << 63, 1 << 61]);
             "the place"

@@ -128,7 +128,11 @@ fn stream(
     };
     tally.add("bits", name);
     // So that the last bit is the slice's last, or anywhere with 0 bits behind it.
-    let before = if draw.below(4) == 0 { draw.below(20) as usize } else { (8 - bits.len() % 8) % 8 + 8 * draw.below(3) as usize };
+    let before = if draw.below(4) == 0 {
+        draw.below(20) as usize
+    } else {
+        (8 - bits.len() % 8) % 8 + 8 * draw.below(3) as usize
+    };
     (Bits::drawn(draw, before).then(&bits).bytes(), before)
 }
 

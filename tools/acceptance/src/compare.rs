@@ -28,13 +28,28 @@ struct Stop {
 }
 
 pub fn whole(case: &Case, draw: &mut Draw, tally: &mut Tally) -> Result<(), String> {
-    let calls = case.calls.len();
     // Room for every call, mostly; else it ends at some call.
-    let room = if draw.below(12) == 0 { draw.below(1 + 3 * RECORD as u32) as usize } else { RECORD * calls };
+    let most = RECORD * case.calls.len();
+    let room = if draw.below(12) == 0 { draw.below(1 + 3 * RECORD as u32) as usize } else { most };
     let start = Start::of(&case.run, room);
     let stop = call_by_call(case, &start, tally)?;
     run_at_once(case, &start, &stop, tally)?;
     replayed(case, &start, &stop, draw, tally)
+}
+
+/// Both sides between two calls: the Rust's picture and reader, and ours.
+struct Walk<'a> {
+    case: &'a Case,
+    access: Access<'a>,
+    reader: BitReader<'a>,
+    /// what the reader's count of bits is to be raised by
+    raise: u64,
+    ours: Start,
+    place: u64,
+    fill: u64,
+    accepted: u64,
+    refusals: usize,
+    stop: Option<Stop>,
 }
 
 /// Every call on both sides. After a refusal the Rust is set back to where ours is, and the calls go on.
@@ -43,58 +58,69 @@ fn call_by_call(case: &Case, start: &Start, tally: &mut Tally) -> Result<Stop, S
     let header = access_header(run.columns, run.rows, run.half, run.third);
     let mut access = Access::new(&header, run.reference.as_ref()).expect("the grid is not empty");
     access.start(run.delta_enable, run.quantiser, run.picture.clone(), run.vectors.clone(), run.marks.clone());
-    let (mut reader, mut raise) = reader_at(&run.bits, run.place);
-    let mut ours = start.clone();
-    let (mut place, mut fill) = (run.place, 0);
-    let mut stop: Option<Stop> = None;
-    let mut refusals = 0;
-    let mut accepted = 0;
+    let (reader, raise) = reader_at(&run.bits, run.place);
+    let (ours, place) = (start.clone(), run.place);
+    let mut walk = Walk { case, access, reader, raise, ours, place, fill: 0, accepted: 0, refusals: 0, stop: None };
     for &call in &case.calls {
-        let before = ours.clone();
-        let at = |what: String| format!("{what}\n{}", single(case, &before, place, call));
-        let told = ours.macroblock(call, &run.bits, place, fill, 5);
-        let room = ours.transcript.len() as u64 - fill;
-        let (code, detail) = if run.reference.is_some() && room < RECORD as u64 {
-            tally.add("refused by a question", "8 in a run");
-            (8, 0)
-        } else {
-            theirs(&mut access, &mut reader, call, tally)
-        };
-        if told.code != code {
-            return Err(at(format!("ours answers {}, {code} is due (detail {detail})", told.code)));
-        }
-        if code == 0 {
-            let after = raise + reader.bits_consumed() as u64;
-            let quantiser = told.counts[1] as u32;
-            ours.quantiser = quantiser;
-            if let Some(what) = apart(&access, &ours) {
-                return Err(at(format!("{what} differ")));
-            }
-            if told.counts[0] != after || told.counts[4] != 0 {
-                return Err(at(format!("counts {:?} where the place is {after}", told.counts)));
-            }
-            let filled = told.counts[2];
-            if !(fill < filled && filled <= fill + RECORD as u64) || untouched(&before, &ours, fill, filled) {
-                return Err(at(format!("the transcript's fill goes from {fill} to {filled}, or bytes past it change")));
-            }
-            (place, fill, accepted) = (after, filled, accepted + u64::from(stop.is_none()));
-            continue;
-        }
-        if ours != before {
-            return Err(at(format!("refused by {code}, and something has changed")));
-        }
-        if told.counts != [place, before.quantiser.into(), fill, 0, detail as u64] {
-            return Err(at(format!("refused by {code} with counts {:?}, detail {detail} is due", told.counts)));
-        }
-        stop.get_or_insert_with(|| Stop { accepted, place, fill, code, detail, left: before.clone() });
-        refusals += 1;
-        if refusals == REFUSALS || code == 8 || code == 3 {
+        let (before, place) = (walk.ours.clone(), walk.place);
+        let on = walk.step(call, &before, tally);
+        if !on.map_err(|what| format!("{what}\n{}", single(case, &before, place, call)))? {
             break;
         }
-        set_back(&mut access, case, &before);
-        (reader, raise) = reader_at(&run.bits, place);
     }
+    let Walk { ours, place, fill, accepted, stop, .. } = walk;
     Ok(stop.unwrap_or(Stop { accepted, place, fill, code: 0, detail: 0, left: ours }))
+}
+
+impl Walk<'_> {
+    /// One call on both sides; whether the calls go on.
+    fn step(&mut self, call: [u32; 3], before: &Start, tally: &mut Tally) -> Result<bool, String> {
+        let told = self.ours.macroblock(call, &self.case.run.bits, self.place, self.fill, 5);
+        let room = self.ours.transcript.len() as u64 - self.fill;
+        let (code, detail) = if self.case.run.reference.is_some() && room < RECORD as u64 {
+            tally.add("first question answered with no (0 none)", "8 in a run");
+            (8, 0)
+        } else {
+            theirs(&mut self.access, &mut self.reader, call, tally)
+        };
+        if told.code != code {
+            return Err(format!("ours answers {}, {code} is due (detail {detail})", told.code));
+        }
+        if code == 0 { self.accepted(before, &told.counts) } else { self.refused(before, &told.counts, code, detail) }
+    }
+
+    fn accepted(&mut self, before: &Start, counts: &[u64]) -> Result<bool, String> {
+        let after = self.raise + self.reader.bits_consumed() as u64;
+        self.ours.quantiser = counts[1] as u32;
+        if let Some(what) = apart(&self.access, &self.ours) {
+            return Err(format!("{what} differ"));
+        }
+        if counts[0] != after || counts[4] != 0 {
+            return Err(format!("counts {counts:?} where the place is {after}"));
+        }
+        let (fill, filled) = (self.fill, counts[2]);
+        if !(fill < filled && filled <= fill + RECORD as u64) || others_changed(before, &self.ours, fill, filled) {
+            return Err(format!("the transcript's fill goes from {fill} to {filled}, or bytes of others change"));
+        }
+        (self.place, self.fill) = (after, filled);
+        self.accepted += u64::from(self.stop.is_none());
+        Ok(true)
+    }
+
+    fn refused(&mut self, before: &Start, counts: &[u64], code: i64, detail: i64) -> Result<bool, String> {
+        if self.ours != *before {
+            return Err(format!("refused by {code}, and something has changed"));
+        }
+        if counts != [self.place, before.quantiser.into(), self.fill, 0, detail as u64] {
+            return Err(format!("refused by {code} with counts {counts:?}, detail {detail} is due"));
+        }
+        let (accepted, place, fill) = (self.accepted, self.place, self.fill);
+        self.stop.get_or_insert_with(|| Stop { accepted, place, fill, code, detail, left: before.clone() });
+        self.refusals += 1;
+        set_back(&mut self.access, self.case, before);
+        (self.reader, self.raise) = reader_at(&self.case.run.bits, place);
+        Ok(self.refusals < REFUSALS && code != 8 && code != 3)
+    }
 }
 
 /// What the published Rust answers.
@@ -121,7 +147,10 @@ fn apart(access: &Access<'_>, ours: &Start) -> Option<&'static str> {
         ("luma samples", picture.luma() == ours.picture[0]),
         ("cb samples", picture.cb() == ours.picture[1]),
         ("cr samples", picture.cr() == ours.picture[2]),
-        ("vectors", vectors.len() * 2 == ours.mv.len() && vectors.iter().zip(ours.mv.chunks(2)).all(|(&(x, y), m)| [x, y] == m)),
+        (
+            "vectors",
+            vectors.len() * 2 == ours.mv.len() && vectors.iter().zip(ours.mv.chunks(2)).all(|(&(x, y), m)| [x, y] == m),
+        ),
         ("marks", access.marks() == ours.marks),
         ("quantisers", access.quantiser() == ours.quantiser),
     ];
@@ -129,7 +158,7 @@ fn apart(access: &Access<'_>, ours: &Start) -> Option<&'static str> {
 }
 
 /// Bytes outside the record's own have changed.
-fn untouched(before: &Start, after: &Start, fill: u64, filled: u64) -> bool {
+fn others_changed(before: &Start, after: &Start, fill: u64, filled: u64) -> bool {
     let (fill, filled) = (fill as usize, filled as usize);
     before.transcript[..fill] != after.transcript[..fill] || before.transcript[filled..] != after.transcript[filled..]
 }
@@ -190,8 +219,14 @@ fn replayed(case: &Case, start: &Start, stop: &Stop, draw: &mut Draw, tally: &mu
     }
     let mut ours = start.clone();
     let told = ours.replay(&damaged, 2);
-    if told.code != 0 && (ours != *start || told.counts != [0, start.quantiser.into()] || ![14, 15].contains(&told.code)) {
-        return Err(format!("the refused replay of {} answers {told:?} or changes something\n{}", hex(&damaged), case.line));
+    if told.code != 0
+        && (ours != *start || told.counts != [0, start.quantiser.into()] || ![14, 15].contains(&told.code))
+    {
+        return Err(format!(
+            "the refused replay of {} answers {told:?} or changes something\n{}",
+            hex(&damaged),
+            case.line
+        ));
     }
     tally.add("damaged transcript", if told.code == 0 { "accepted".into() } else { format!("refused {}", told.code) });
     Ok(())

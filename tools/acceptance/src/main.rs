@@ -67,7 +67,9 @@ fn main() {
             break;
         }
         let drawn = mixed(seed, n);
-        if let Err(difference) = guard::guarded(|| one(drawn, &mut tally)).unwrap_or_else(|panic| Err(format!("panic {panic}"))) {
+        if let Err(difference) =
+            guard::guarded(|| one(drawn, &mut tally)).unwrap_or_else(|panic| Err(format!("panic {panic}")))
+        {
             println!("DIFFERENCE in run {n} (drawn from {drawn}): {difference}");
             std::process::exit(1);
         }

@@ -9,8 +9,17 @@ pub struct Tally {
 }
 
 /// Each section's heading, in the order of printing.
-const SECTIONS: [&str; 9] =
-    ["bits", "grid", "accepted in mode", "refused while reading", "refused by a question", "run", "replay", "damaged transcript", "counts too short"];
+const SECTIONS: [&str; 9] = [
+    "bits",
+    "grid",
+    "accepted in mode",
+    "refused while reading",
+    "first question answered with no (0 none)",
+    "run",
+    "replay",
+    "damaged transcript",
+    "counts too short",
+];
 
 impl Tally {
     pub fn add(&mut self, section: &'static str, kind: impl ToString) {
@@ -24,8 +33,12 @@ impl Tally {
 
     pub fn print(&self, taken: Duration) {
         for section in SECTIONS {
-            let row: Vec<String> =
-                self.counts.iter().filter(|entry| entry.0.0 == section).map(|entry| format!("{} {}", entry.0.1, entry.1)).collect();
+            let row: Vec<String> = self
+                .counts
+                .iter()
+                .filter(|entry| entry.0.0 == section)
+                .map(|entry| format!("{} {}", entry.0.1, entry.1))
+                .collect();
             println!("{section}: {}", if row.is_empty() { "none".into() } else { row.join(", ") });
         }
         let accepted = self.sum("accepted in mode");
