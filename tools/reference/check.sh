@@ -13,7 +13,7 @@ rm -f "$out/reference" "$out/checked"
 "$here/build.sh" checked
 [ -x "$out/checked" ] || exit 0
 
-for list in readers samples; do
+for list in readers samples macroblocks runs; do
     "$out/reference" vectors $list > "$out/$list.bin"
     # No question makes the Rust overflow.
     "$out/checked" vectors $list | cmp - "$out/$list.bin"
@@ -21,7 +21,7 @@ for list in readers samples; do
     kept=$root/crates/$list/stdin
     [ "${1:-}" != write ] || cp "$out/$list.bin" "$kept"
     cmp "$out/$list.bin" "$kept"
-    echo "$list: $(($("$out/reference" vectors $list text | wc -l))) questions, answers as kept"
+    echo "$list: $(($("$out/reference" vectors $list text | wc -l))) records, answers as kept"
 done
 
 # Nor does a drawn run, sound or damaged.

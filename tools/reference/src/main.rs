@@ -5,15 +5,22 @@
 mod bits;
 mod draw;
 mod guard;
+mod macroblock;
+mod macroblock_list;
 mod reader;
 mod reader_list;
 mod record;
 mod refusal;
+mod replay;
 mod run;
+mod run_case;
+mod run_case_list;
 mod run_list;
 mod sample;
 mod sample_list;
+mod start;
 mod text;
+mod transcript;
 mod vector;
 
 use std::io::{self, BufRead, Write};
@@ -28,13 +35,17 @@ fn main() -> io::Result<()> {
         ["vectors", "readers", "text"] => out.write_all(record::lines(&reader_list::questions()).as_bytes())?,
         ["vectors", "samples"] => out.write_all(&record::bytes(&sample_list::questions()))?,
         ["vectors", "samples", "text"] => out.write_all(record::lines(&sample_list::questions()).as_bytes())?,
+        ["vectors", "macroblocks"] => out.write_all(&record::bytes(&macroblock_list::cases()))?,
+        ["vectors", "macroblocks", "text"] => out.write_all(record::lines(&macroblock_list::cases()).as_bytes())?,
+        ["vectors", "runs"] => out.write_all(&record::bytes(&run_case_list::cases()))?,
+        ["vectors", "runs", "text"] => out.write_all(record::lines(&run_case_list::cases()).as_bytes())?,
         ["runs", count, seed] => {
             let count = text::number(count).map_err(io::Error::other)?;
             let seed = text::number(seed).map_err(io::Error::other)?;
             out.write_all(run_list::queries(count, seed).as_bytes())?;
         }
         _ => {
-            eprintln!("usage: reference [vectors readers|samples [text] | runs COUNT SEED]");
+            eprintln!("usage: reference [vectors readers|samples|macroblocks|runs [text] | runs COUNT SEED]");
             std::process::exit(2);
         }
     }

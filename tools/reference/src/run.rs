@@ -8,6 +8,7 @@ use published::svq3_frame::{Access, access_header};
 use published::svq3_mb::PFrameInterMode;
 use published::svq3_picture::Svq3Picture;
 
+#[derive(Clone)]
 pub struct Call {
     pub column: u32,
     pub row: u32,
@@ -15,6 +16,7 @@ pub struct Call {
 }
 
 /// The start, by document 01's list, and what the run is given.
+#[derive(Clone)]
 pub struct Run {
     pub columns: usize,
     pub rows: usize,
