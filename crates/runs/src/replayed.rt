@@ -1,0 +1,225 @@
+// A transcript is replayed from the start, and all that the replay left is compared.
+ghost use Prim.Native.Nat.{_≤_};
+ghost use lib.ListN.{length};
+use crate::end::take_end;
+use cases::head::fill;
+use cases::head::number_at;
+use cases::head::short_at;
+use cases::head::wide;
+use cases::state::copy_state;
+use cases::state::lent_of;
+use cases::state::same_state;
+use checking::CheckAnswer;
+use checking::check_transcript;
+use macroblock::svq3_frame::Frame;
+use reading::svq3_frame::Flags;
+use run::ReplayAnswer;
+use run::replay::replay;
+
+pub fn frame_of(head: &[u8; 80]) -> Frame {
+    let flags = head[1];
+    Frame {
+        cols: number_at(head, 4),
+        rows: number_at(head, 8),
+        flags: Flags {
+            halfpel: flags % 2 == 1,
+            thirdpel: flags / 2 % 2 == 1,
+            delta: flags / 4 % 2 == 1,
+        },
+    }
+}
+
+// The count of records is at 12, the quantiser afterwards at 28, in a run's head too. No refusal of a replay has a detail.
+fn answered(got: ReplayAnswer, head: &[u8; 80], number: u32) -> bool {
+    match got {
+        ReplayAnswer::Replayed(records, quantiser) => {
+            (number == 0)
+                & (records == number_at(head, 12) as usize)
+                & (quantiser == number_at(head, 28))
+        }
+        ReplayAnswer::Refused(why) => {
+            (refusal::number_of(why) == number) & (refusal::detail_of(why) == 0)
+        }
+    }
+}
+
+// What is lent is the start of each slice, as long as the head says.
+fn lend(
+    y: &mut [u8],
+    cb: &mut [u8],
+    cr: &mut [u8],
+    mv: &mut [i32],
+    marks: &mut [u8],
+    ry: &[u8],
+    rcb: &[u8],
+    rcr: &[u8],
+    bytes: &[u8],
+    head: &[u8; 80],
+) -> ReplayAnswer
+    requires { ⌜ (1600 ≤ length (now y)) × (400 ≤ length (now cb)) × (400 ≤ length (now cr)) × (200 ≤ length (now mv)) × (100 ≤ length (now marks)) × (1600 ≤ length (now ry)) × (400 ≤ length (now rcb)) × (400 ≤ length (now rcr)) ⌝ }
+{
+    let l = lent_of(head);
+    let ny = l.y;
+    let ncb = l.cb;
+    let ncr = l.cr;
+    let nmv = l.mv;
+    let nmarks = l.marks;
+    let nry = l.ry;
+    let nrcb = l.rcb;
+    let nrcr = l.rcr;
+    replay(
+        &mut y[..ny],
+        &mut cb[..ncb],
+        &mut cr[..ncr],
+        &mut mv[..nmv],
+        &mut marks[..nmarks],
+        &ry[..nry],
+        &rcb[..nrcb],
+        &rcr[..nrcr],
+        bytes,
+        frame_of(head),
+        number_at(head, 24),
+    )
+}
+
+// The replay of a transcript from a start, into copies: refused with that number, or done and at the expected end.
+pub fn replay_agrees(
+    y: &[u8],
+    cb: &[u8],
+    cr: &[u8],
+    mv: &[i32],
+    marks: &[u8],
+    y_end: &[u8],
+    cb_end: &[u8],
+    cr_end: &[u8],
+    mv_end: &[i32],
+    marks_end: &[u8],
+    ry: &[u8; 1600],
+    rcb: &[u8; 400],
+    rcr: &[u8; 400],
+    bytes: &[u8],
+    head: &[u8; 80],
+    number: u32,
+) -> bool {
+    let mut y_now = [0u8; 1600];
+    let mut cb_now = [0u8; 400];
+    let mut cr_now = [0u8; 400];
+    let mut mv_now = [0i32; 200];
+    let mut marks_now = [0u8; 100];
+    copy_state(
+        &mut y_now,
+        &mut cb_now,
+        &mut cr_now,
+        &mut mv_now,
+        &mut marks_now,
+        y,
+        cb,
+        cr,
+        mv,
+        marks,
+    );
+    let got = lend(
+        &mut y_now,
+        &mut cb_now,
+        &mut cr_now,
+        &mut mv_now,
+        &mut marks_now,
+        ry,
+        rcb,
+        rcr,
+        bytes,
+        head,
+    );
+    answered(got, head, number)
+        & same_state(
+            &y_now,
+            &cb_now,
+            &cr_now,
+            &mv_now,
+            &marks_now,
+            y_end,
+            cb_end,
+            cr_end,
+            mv_end,
+            marks_end,
+        )
+}
+
+// The check of a transcript alone: byte 3 has its refusal.
+fn check_agrees(bytes: &[u8], head: &[u8; 80]) -> bool {
+    match check_transcript(bytes, number_at(head, 4), number_at(head, 8)) {
+        CheckAnswer::Records(n) => (head[3] == 0) & (n == number_at(head, 12) as usize),
+        CheckAnswer::Refused(why) => refusal::number_of(why) == wide(head[3]) as u32,
+    }
+}
+
+fn compare(
+    y: &[u8],
+    cb: &[u8],
+    cr: &[u8],
+    mv: &[i32],
+    marks: &[u8],
+    ry: &[u8; 1600],
+    rcb: &[u8; 400],
+    rcr: &[u8; 400],
+    bytes: &[u8],
+    head: &[u8; 80],
+) -> bool {
+    let mut y_end = [0u8; 1600];
+    let mut cb_end = [0u8; 400];
+    let mut cr_end = [0u8; 400];
+    let mut mv_end = [0i32; 200];
+    let mut marks_end = [0u8; 100];
+    let whole = take_end(
+        &mut y_end,
+        &mut cb_end,
+        &mut cr_end,
+        &mut mv_end,
+        &mut marks_end,
+        y,
+        cb,
+        cr,
+        mv,
+        marks,
+        head,
+    );
+    let same = replay_agrees(
+        y,
+        cb,
+        cr,
+        mv,
+        marks,
+        &y_end,
+        &cb_end,
+        &cr_end,
+        &mv_end,
+        &marks_end,
+        ry,
+        rcb,
+        rcr,
+        bytes,
+        head,
+        wide(head[2]) as u32,
+    );
+    same & whole & check_agrees(bytes, head)
+}
+
+// Kind 5: whether the replay of the transcript that follows does as the answer behind it says.
+pub fn agrees(
+    y: &[u8],
+    cb: &[u8],
+    cr: &[u8],
+    mv: &[i32],
+    marks: &[u8],
+    ry: &[u8; 1600],
+    rcb: &[u8; 400],
+    rcr: &[u8; 400],
+    head: &[u8; 80],
+) -> bool {
+    let mut bytes = [0u8; 8192];
+    let n = short_at(head, 58);
+    if fill(&mut bytes, n) {
+        return compare(y, cb, cr, mv, marks, ry, rcb, rcr, &bytes[..n], head);
+    }
+    false
+}
