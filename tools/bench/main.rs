@@ -1,8 +1,36 @@
 //! Times the proved library and the published Rust side by side: the same inputs, both optimised, in one run.
 //! A row fails where the results differ or the library is less than its bar times as fast.
 
+#[allow(dead_code)]
+#[path = "../reference/src/bits.rs"]
+mod bits;
+#[allow(dead_code)]
+#[path = "../reference/src/draw.rs"]
+mod draw;
+#[allow(dead_code)]
+#[path = "../acceptance/src/ours.rs"]
+mod ours;
+#[allow(dead_code)]
+#[path = "../reference/src/reader.rs"]
+mod reader;
+#[allow(dead_code)]
+#[path = "../reference/src/record.rs"]
+mod record;
+#[allow(dead_code)]
+#[path = "../reference/src/refusal.rs"]
+mod refusal;
+#[allow(dead_code)]
+#[path = "../reference/src/run.rs"]
+mod run;
+#[allow(dead_code)]
+#[path = "../reference/src/text.rs"]
+mod text;
+
 mod compensation;
+mod film;
+mod films;
 mod residual;
+mod stack;
 mod timing;
 
 use timing::Row;
@@ -18,6 +46,7 @@ fn main() {
     };
     compensation::rows(&mut show);
     residual::rows(&mut show);
+    low.extend(films::rows());
     if !low.is_empty() {
         println!("{}", low.join("\n"));
         std::process::exit(1);

@@ -55,7 +55,8 @@ impl Levels {
         let ac = [(); 2].map(|()| [(); 4].map(|()| std::array::from_fn(|n| if n == 0 { 0 } else { level(n) })));
         let raster = |b: usize| 8 * (b / 8) + 2 * (b / 4 % 2) + 4 * (b / 2 % 2) + b % 2;
         let luma_listed = std::array::from_fn(|n| luma[raster(n / 16)][n % 16]);
-        let listed = |p: usize| std::array::from_fn(|n| if n < 4 { dc[p][n] } else { ac[p][(n - 4) / 16][(n - 4) % 16] });
+        let listed =
+            |p: usize| std::array::from_fn(|n| if n < 4 { dc[p][n] } else { ac[p][(n - 4) / 16][(n - 4) % 16] });
         Self { luma, dc, ac, luma_listed, chroma_listed: [listed(0), listed(1)] }
     }
 }

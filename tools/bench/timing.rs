@@ -39,7 +39,7 @@ fn round(work: &mut impl FnMut()) -> f64 {
     start.elapsed().as_nanos() as f64 / f64::from(TURNS)
 }
 
-fn median(mut times: Vec<f64>) -> f64 {
+pub fn median(mut times: Vec<f64>) -> f64 {
     times.sort_by(f64::total_cmp);
     times[times.len() / 2]
 }

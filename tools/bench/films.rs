@@ -1,0 +1,122 @@
+//! Whole films of one picture: the Rust's calls, our run, our replay of its transcript, and the copying of three planes.
+
+use crate::film::{Film, Kind, film};
+use crate::ours::Start;
+use crate::stack;
+use crate::timing::median;
+use published::bitreader::BitReader;
+use published::svq3_frame::{Access, access_header};
+use std::hint::black_box;
+use std::time::Instant;
+
+const ROUNDS: usize = 21;
+/// A record has at most this many bytes.
+const RECORD: usize = 2089;
+const COUNTS: usize = 5;
+
+/// Nanoseconds a macroblock, the medians of the rounds.
+struct Row {
+    reference: f64,
+    run: f64,
+    replay: f64,
+    copy: f64,
+}
+
+/// Measures and shows all films; answers what is below a bar.
+pub fn rows() -> Vec<String> {
+    let mut low = Vec::new();
+    println!(
+        "\n{:<16} {:>9} {:>9} {:>9} {:>7} {:>9} {:>9}",
+        "a film's macroblock", "grid", "Rust, ns", "run, ns", "times", "replay", "memcpy"
+    );
+    // How many times as fast as the Rust a run has to be.
+    for (name, kind, bar) in [("heavy", Kind::Heavy, 3.5), ("light", Kind::Light, 5.0), ("skip", Kind::Skip, 0.0)] {
+        for (columns, rows) in [(22, 18), (45, 36), (120, 68)] {
+            let row = measured(&film(kind, columns, rows));
+            let times = row.reference / row.run;
+            println!(
+                "{name:<19} {:>9} {:>9.0} {:>9.0} {times:>7.2} {:>9.0} {:>9.0}",
+                format!("{columns} x {rows}"),
+                row.reference,
+                row.run,
+                row.replay,
+                row.copy
+            );
+            if times < bar {
+                low.push(format!("{name} film, {columns} x {rows}: below {bar} times"));
+            }
+            if row.replay > row.run {
+                low.push(format!("{name} film, {columns} x {rows}: the replay is slower than the run"));
+            }
+        }
+    }
+    let most = [(1, 1), (45, 36), (120, 68), (4096, 1)].map(|(columns, rows)| {
+        let used = stack_of(&film(Kind::Heavy, columns, rows));
+        println!("stack of a run, {columns} x {rows} macroblocks: {used} bytes");
+        used
+    });
+    if most.iter().any(|&used| used >= 64 * 1024) {
+        low.push("a run needs 64 KiB of stack or more".into());
+    }
+    low
+}
+
+/// All that a run left.
+fn left_of(access: &Access<'_>) -> (Vec<u8>, Vec<i32>, Vec<u8>, u32) {
+    let picture = access.picture();
+    let samples = [picture.luma(), picture.cb(), picture.cr()].concat();
+    let vectors = access.vectors().iter().flat_map(|&(x, y)| [x, y]).collect();
+    (samples, vectors, access.marks().to_vec(), access.quantiser())
+}
+
+fn measured(film: &Film) -> Row {
+    let Film { run, list } = film;
+    let macroblocks = run.calls.len() as f64;
+    let header = access_header(run.columns, run.rows, run.half, run.third);
+    let start = Start::of(run, RECORD * run.calls.len());
+    let (mut theirs, mut ours, mut again, mut copied) = (Vec::new(), Vec::new(), Vec::new(), Vec::new());
+    for _ in 0..ROUNDS {
+        let mut access = Access::new(&header, run.reference.as_ref()).expect("a grid");
+        access.start(run.delta_enable, run.quantiser, run.picture.clone(), run.vectors.clone(), run.marks.clone());
+        let mut reader = BitReader::new(&run.bits);
+        let begun = Instant::now();
+        for call in &run.calls {
+            access.decode_inter_mb(&mut reader, call.column, call.row, call.mode).expect("a sound film");
+        }
+        theirs.push(begun.elapsed().as_nanos() as f64 / macroblocks);
+        let left = left_of(&access);
+
+        let mut state = start.clone();
+        let begun = Instant::now();
+        let told = state.run(list, &run.bits, run.place, COUNTS);
+        ours.push(begun.elapsed().as_nanos() as f64 / macroblocks);
+        assert_eq!((told.code, told.counts[0] as usize), (0, run.calls.len()), "the run is refused");
+        assert_eq!(told.counts[1] as usize, reader.bits_consumed(), "bits consumed differ");
+        let quantiser = told.counts[3] as u32;
+        assert!((state.picture.concat(), state.mv.clone(), state.marks.clone(), quantiser) == left, "the run differs");
+
+        let transcript = &state.transcript[..told.counts[2] as usize];
+        let mut second = start.clone();
+        let begun = Instant::now();
+        let told = second.replay(transcript, COUNTS);
+        again.push(begun.elapsed().as_nanos() as f64 / macroblocks);
+        assert_eq!((told.code, told.counts[0] as usize), (0, run.calls.len()), "the replay is refused");
+        let quantiser = told.counts[1] as u32;
+        assert!((second.picture.concat(), second.mv, second.marks, quantiser) == left, "the replay differs");
+
+        let mut planes = start.picture.clone();
+        let begun = Instant::now();
+        for (plane, reference) in planes.iter_mut().zip(&start.reference) {
+            black_box(&mut *plane).copy_from_slice(black_box(reference));
+        }
+        copied.push(begun.elapsed().as_nanos() as f64 / macroblocks);
+    }
+    Row { reference: median(theirs), run: median(ours), replay: median(again), copy: median(copied) }
+}
+
+/// The bytes of stack that a run takes.
+fn stack_of(film: &Film) -> usize {
+    let Film { run, list } = film;
+    let mut state = Start::of(run, RECORD * run.calls.len());
+    stack::used(|| assert_eq!(state.run(list, &run.bits, run.place, COUNTS).code, 0))
+}
