@@ -286,6 +286,8 @@ fn copy_by_width(
         copy_rows(dst, src, dstride, dx, dy, 8, h, stride, from);
     } else if w == 4 {
         copy_rows(dst, src, dstride, dx, dy, 4, h, stride, from);
+    } else if w == 2 {
+        copy_rows(dst, src, dstride, dx, dy, 2, h, stride, from);
     } else {
         copy_rows(dst, src, dstride, dx, dy, w, h, stride, from);
     }

@@ -90,7 +90,7 @@ fn fill_row(cells: &mut [u8], at: usize, n: usize, v: u8)
 }
 
 // v at the w × h places from column x of row y on.
-pub fn fill(cells: &mut [u8], stride: usize, x: usize, y: usize, w: usize, h: usize, v: u8)
+fn fill_rows(cells: &mut [u8], stride: usize, x: usize, y: usize, w: usize, h: usize, v: u8)
     requires { ⌜ Inside stride x y w h (length (now cells)) ⌝ }
     ensures { λ _. ⌜ now (cells .exit) ≡ filled (now (cells .entry)) stride x y w h v ⌝ }
 {
@@ -98,5 +98,21 @@ pub fn fill(cells: &mut [u8], stride: usize, x: usize, y: usize, w: usize, h: us
     while r < h {
         fill_row(cells, (y + r) * stride + x, w, v);
         r += 1;
+    }
+}
+
+// The same, with the widths of partitions in cells known to the compiler.
+pub fn fill(cells: &mut [u8], stride: usize, x: usize, y: usize, w: usize, h: usize, v: u8)
+    requires { ⌜ Inside stride x y w h (length (now cells)) ⌝ }
+    ensures { λ _. ⌜ now (cells .exit) ≡ filled (now (cells .entry)) stride x y w h v ⌝ }
+{
+    if w == 4 {
+        fill_rows(cells, stride, x, y, 4, h, v);
+    } else if w == 2 {
+        fill_rows(cells, stride, x, y, 2, h, v);
+    } else if w == 1 {
+        fill_rows(cells, stride, x, y, 1, h, v);
+    } else {
+        fill_rows(cells, stride, x, y, w, h, v);
     }
 }

@@ -190,9 +190,27 @@ exactly-one e mode a b h z k l m = record {
   only = λ j. tiles e mode j a b h k l .0;
 }
 
--- ---- the divisors of the code
-pub wide : (mode : ℕ) → mode ≤ 7 → 0 < partitionWidth mode
-wide mode k = simp div-one at (cut 0 mode (omega arith) k .wide)
+-- ---- the code's bytes by mode, and its products
+pub width-byte : (mode : ℕ) → mode ≤ 7 → 290486608640610320 / 2 ^ (8 * mode) % 256 ≡ partitionWidth mode
+unfolding partitionWidth
+width-byte mode k = eqb→eq _ _ (all-at (λ m. eqb (290486608640610320 / 2 ^ (8 * m) % 256) (partitionWidth m)) 8 tt mode (omega arith))
 
-pub across : (mode : ℕ) → mode ≤ 7 → 0 < 16 / partitionWidth mode
-across mode k = cut 0 mode (omega arith) k .row
+pub height-byte : (mode : ℕ) → mode ≤ 7 → 289365106646585360 / 2 ^ (8 * mode) % 256 ≡ partitionHeight mode
+unfolding partitionHeight
+height-byte mode k = eqb→eq _ _ (all-at (λ m. eqb (289365106646585360 / 2 ^ (8 * m) % 256) (partitionHeight m)) 8 tt mode (omega arith))
+
+pub count-byte : (mode : ℕ) → mode ≤ 7 → 1155182117727109376 / 2 ^ (8 * mode) % 256 ≡ numMotionVectors mode
+unfolding numMotionVectors
+count-byte mode k = eqb→eq _ _ (all-at (λ m. eqb (1155182117727109376 / 2 ^ (8 * m) % 256) (numMotionVectors m)) 8 tt mode (omega arith))
+
+pub offset-x-is : (mode i : ℕ) → mode ≤ 7 → i < 16 → i * partitionWidth mode % 16 ≡ offsetX mode i
+unfolding partitionWidth offsetX
+offset-x-is mode i k l = eqb→eq _ _ (all-at (λ j. eqb (j * partitionWidth mode % 16) (offsetX mode j)) 16 (all-at (λ m. all (λ j. eqb (j * partitionWidth m % 16) (offsetX m j)) 16) 8 tt mode (omega arith)) i l)
+
+pub offset-y-is : (mode i : ℕ) → mode ≤ 7 → i < 16 → i * partitionWidth mode / 16 * partitionHeight mode ≡ offsetY mode i
+unfolding partitionWidth partitionHeight offsetY
+offset-y-is mode i k l = eqb→eq _ _ (all-at (λ j. eqb (j * partitionWidth mode / 16 * partitionHeight mode) (offsetY mode j)) 16 (all-at (λ m. all (λ j. eqb (j * partitionWidth m / 16 * partitionHeight m) (offsetY m j)) 16) 8 tt mode (omega arith)) i l)
+
+pub product : (mode i : ℕ) → mode ≤ 7 → i < 16 → i * partitionWidth mode ≤ 256
+unfolding partitionWidth
+product mode i k l = leb→le _ _ (all-at (λ j. leb (j * partitionWidth mode) 256) 16 (all-at (λ m. all (λ j. leb (j * partitionWidth m) 256) 16) 8 tt mode (omega arith)) i l)

@@ -1,6 +1,6 @@
 // Partitions by mode, the mode being the number of a call, and the precision selector.
 ghost use mathlib.Core.Path.{_≡_};
-ghost use Prim.Native.Nat.{_≤_, _<_, _^_};
+ghost use Prim.Native.Nat.{_*_, _/_, _%_, _≤_, _<_, _^_};
 ghost use lib.ListN.{length, drop};
 ghost use Rattle.bits.specs.Bits.{bitList};
 ghost use Rattle.vectors.specs.Modes.{partitionWidth, partitionHeight, numMotionVectors, offsetX, offsetY};
@@ -8,19 +8,28 @@ ghost use Rattle.vectors.specs.Precision.{precisionNumber, precisionOf, 
 use bits::bitreader::bit_at;
 use refusal::Refusal;
 
-const WIDTHS: [usize; 8] = [16, 16, 8, 16, 8, 4, 8, 4];
+// By mode, a byte each, mode 0's the lowest: the compiler stores an array anew wherever it is read.
+const WIDTHS: u64 = 0x0408_0408_1008_1010;
 
-const HEIGHTS: [usize; 8] = [16, 16, 16, 8, 8, 8, 4, 4];
+const HEIGHTS: u64 = 0x0404_0808_0810_1010;
 
-const COUNTS: [usize; 8] = [0, 1, 2, 2, 4, 8, 8, 16];
+const COUNTS: u64 = 0x1008_0804_0202_0100;
+
+// A mode's byte.
+fn of_mode(table: u64, mode: u32) -> usize
+    requires { ⌜ mode ≤ 7 ⌝ }
+    ensures { λ r. ⌜ r ≡ table / 2 ^ (8 * mode) % 256 ⌝ }
+{
+    let shift = 8 * mode;
+    ((table >> shift) % 256) as usize
+}
 
 // The width of a partition in luma samples.
 pub fn partition_width(mode: u32) -> usize
     requires { ⌜ mode ≤ 7 ⌝ }
     ensures { λ r. ⌜ r ≡ partitionWidth mode ⌝ }
 {
-    let m = mode as usize;
-    WIDTHS[m]
+    of_mode(WIDTHS, mode)
 }
 
 // The height of a partition in luma samples.
@@ -28,8 +37,7 @@ pub fn partition_height(mode: u32) -> usize
     requires { ⌜ mode ≤ 7 ⌝ }
     ensures { λ r. ⌜ r ≡ partitionHeight mode ⌝ }
 {
-    let m = mode as usize;
-    HEIGHTS[m]
+    of_mode(HEIGHTS, mode)
 }
 
 // The number of partitions, each with one vector.
@@ -37,8 +45,7 @@ pub fn num_motion_vectors(mode: u32) -> usize
     requires { ⌜ mode ≤ 7 ⌝ }
     ensures { λ r. ⌜ r ≡ numMotionVectors mode ⌝ }
 {
-    let m = mode as usize;
-    COUNTS[m]
+    of_mode(COUNTS, mode)
 }
 
 // Where partition i starts in its macroblock, in luma samples.
@@ -47,7 +54,7 @@ pub fn partition_offset_x(mode: u32, i: usize) -> usize
     ensures { λ r. ⌜ r ≡ offsetX mode i ⌝ }
 {
     let w = partition_width(mode);
-    i % (16 / w) * w
+    i * w % 16
 }
 
 pub fn partition_offset_y(mode: u32, i: usize) -> usize
@@ -56,7 +63,7 @@ pub fn partition_offset_y(mode: u32, i: usize) -> usize
 {
     let w = partition_width(mode);
     let h = partition_height(mode);
-    i / (16 / w) * h
+    i * w / 16 * h
 }
 
 pub enum Svq3MvPrecision {

@@ -12,10 +12,14 @@ returns-2 c = rw (c .before .before .before .before .if2 .taken) (c .before .bef
 returns-3 : tie.Need-returns-3
 returns-3 c = rw (c .before .before .before .before .if3 .taken) (c .before .before .copy-rows3 .ensures)
 
+returns-4 : tie.Need-returns-4
+returns-4 c = rw (c .before .before .before .before .if4 .taken) (c .before .before .copy-rows4 .ensures)
+
 pub copy-by-width-spec : {M : Type 1} → statement M
 copy-by-width-spec =
     tie.close
     (tie.spec
+    (λ c κs. search needs)
     (λ c κs. search needs)
     (λ c κs. search needs)
     (λ c κs. search needs)
@@ -27,4 +31,6 @@ copy-by-width-spec =
     (λ c. search needs)
     returns-3
     (λ c. search needs)
-    (λ c. c .before .before .copy-rows4 .ensures))
+    returns-4
+    (λ c. search needs)
+    (λ c. c .before .before .copy-rows5 .ensures))

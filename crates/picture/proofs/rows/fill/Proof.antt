@@ -1,78 +1,39 @@
-use mathlib.Core.Path.{_≡_, refl, _∙_}
-use Prim.Native.Nat.{_≤_, _+_, _-_, _*_}
-use native.Mathlib.Omega.{arith}
-use native.Mathlib.Numerals.{add-one}
-use mir.Syntax.{w32}
-use mir.Val.{toZ}
-use mir.Facts.{toZ-ofZ}
-use denote.Ref.{now}
-use lib.IntN.{pos}
-use lib.ListN.{length}
-use Rattle.picture.specs.Picture.{always, filled}
-use Rattle.picture.specs.Rows.{rows}
-use Rattle.picture.proofs.Laws.{Row, inside-row, rows-painted}
+-- `picture::rows::fill` meets its contract: as `fill_rows`, whatever the width.
+use borrow.Author.Needs.{needs}
 use Rattle.picture.proofs.rows.fill.Statement.{statement}
 use Rattle.picture.proofs.rows.fill.Tie as tie
-use Rattle.picture.proofs.rows.fill.Reads as reads
-use Rattle.picture.proofs.rows.fill.Lts as lts
-use Rattle.picture.proofs.rows.fill_row.Reads as fill-row-reads
 
-abbrev Inv-loop : tie.InvT-loop
-Inv-loop cells₀ stride x y w h v r₀ cells r = (r ≤ h) × (length cells ≡ length cells₀) × (cells ≡ rows cells₀ stride x y (always v) w r)
+fill-rows-requires : tie.Need-fill-rows-requires
+fill-rows-requires c κs = rw (c .before .if1 .taken) at (c .before .before .before .pre)
 
-abbrev μ-loop : tie.MeasureT-loop
-μ-loop cells₀ stride x y w h v r₀ cells r = h - r
+fill-rows-requires-2 : tie.Need-fill-rows-requires-2
+fill-rows-requires-2 c κs = rw (c .before .if2 .taken) at (c .before .before .before .before .pre)
 
-loop-holds : tie.Need-loop-holds Inv-loop μ-loop
-unfolding rows
-loop-holds c = (omega arith, refl, refl)
+fill-rows-requires-3 : tie.Need-fill-rows-requires-3
+fill-rows-requires-3 c κs = rw (c .before .if3 .taken) at (c .before .before .before .before .before .pre)
 
--- the row of a turn lies within
-lies : (c : tie.In-loop Inv-loop μ-loop) → let a = c .before .before .before .args in Row (a .stride) (a .x) (a .y) (a .w) (c .before .loop .r) (length (now (a .cells)))
-lies c = inside-row (c .before .before .before .pre) (c .loop-test .taken)
+returns : tie.Need-returns
+returns c = rw (c .before .before .before .before .if1 .taken) (c .before .before .fill-rows .ensures)
 
-add-fill-row : tie.Need-add-fill-row Inv-loop μ-loop
-add-fill-row c = omega (arith, lies (c .before))
+returns-2 : tie.Need-returns-2
+returns-2 c = rw (c .before .before .before .before .if2 .taken) (c .before .before .fill-rows2 .ensures)
 
-mul-fill-row : tie.Need-mul-fill-row Inv-loop μ-loop
-mul-fill-row c = omega (arith, lies (c .before))
-
-add-fill-row-2 : tie.Need-add-fill-row-2 Inv-loop μ-loop
-add-fill-row-2 c = omega (arith, lies (c .before))
-
-fill-row-requires : tie.Need-fill-row-requires Inv-loop μ-loop
-fill-row-requires c κs = omega (arith, lies (c .before))
-
-add-r : tie.Need-add-r Inv-loop μ-loop
-add-r c = omega arith
-
-loop-less : tie.Need-loop-less Inv-loop μ-loop
-loop-less c = omega arith
-
-loop-again : tie.Need-loop-again Inv-loop μ-loop
-unfolding rows always
-loop-again c = (omega arith, omega (arith, c .before .before .fill-row .kept .0), rw add-one (cc))
-
-same-length : tie.Need-same-length Inv-loop μ-loop
-same-length c = omega arith
-
-returns : tie.Need-returns Inv-loop μ-loop
-unfolding filled
-returns c = let e : c .before .loop .r ≡ c .before .before .before .args .h = omega arith in c .before .loop .inv .2 ∙ rw e (rows-painted 0 _ _ (c .before .before .before .pre))
+returns-3 : tie.Need-returns-3
+returns-3 c = rw (c .before .before .before .before .if3 .taken) (c .before .before .fill-rows3 .ensures)
 
 pub fill-spec : {M : Type 1} → statement M
 fill-spec =
     tie.close
     (tie.spec
-    Inv-loop
-    μ-loop
-    loop-holds
-    add-fill-row
-    mul-fill-row
-    add-fill-row-2
-    fill-row-requires
-    add-r
-    loop-less
-    loop-again
-    same-length
-    returns)
+    fill-rows-requires
+    fill-rows-requires-2
+    fill-rows-requires-3
+    (λ c κs. search needs)
+    (λ c. search needs)
+    returns
+    (λ c. search needs)
+    returns-2
+    (λ c. search needs)
+    returns-3
+    (λ c. search needs)
+    (λ c. search needs))
