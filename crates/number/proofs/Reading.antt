@@ -107,6 +107,10 @@ module _ (s : List ℕ) (at p a unit : ℕ) where
   here : p < length s → drop p s ≡ getD s p 0 ∷ drop (p + 1) s
   here h = rw (add-one, drop-cons s p 0 h)
 
+  -- alone
+  pub one-group : p < length s → getD s p 0 < 128 → numberAnswer p (readNumber (drop p s)) ≡ Number (getD s p 0) (p + 1)
+  one-group h l = rw (here h, read-last (getD s p 0) (drop (p + 1) s) l)
+
   pub last-group : p < length s → getD s p 0 < 128 → joined at p a unit (readNumber (drop p s)) ≡ joined at p a unit (got (getD s p 0) 1)
   last-group h l = rw (here h, read-last (getD s p 0) (drop (p + 1) s) l)
 

@@ -25,8 +25,8 @@ fn wide(x: u8) -> u64
     x as u64
 }
 
-// The number at a place, which may lie anywhere, also past the end.
-pub fn read_number(s: &[u8], at: usize) -> NumberAnswer
+// The number at a place, group by group.
+fn read_groups(s: &[u8], at: usize) -> NumberAnswer
     ensures { λ r. ⌜ r ≡ numberAnswer at (readNumber (drop at (now (s .entry)))) ⌝ }
 {
     let mut p = at;
@@ -56,6 +56,19 @@ pub fn read_number(s: &[u8], at: usize) -> NumberAnswer
         unit = 128 * unit;
         p += 1;
     }
+}
+
+// The number at a place, which may lie anywhere, also past the end. Most have one group.
+pub fn read_number(s: &[u8], at: usize) -> NumberAnswer
+    ensures { λ r. ⌜ r ≡ numberAnswer at (readNumber (drop at (now (s .entry)))) ⌝ }
+{
+    if at < s.len() {
+        let b = s[at];
+        if b < 128 {
+            return NumberAnswer::Number(b as u32, at + 1);
+        }
+    }
+    read_groups(s, at)
 }
 
 // Writes v from a place on, and answers the place after it.
