@@ -5,7 +5,7 @@ ghost use lib.ListN.{length};
 ghost use Rattle.picture.specs.Painted.{Inside, painted};
 ghost use Rattle.picture.specs.Rows.{row};
 ghost use Rattle.compensation.specs.Formula.{half, formula};
-ghost use Rattle.compensation.specs.Kernel.{weighed, blended, mixed, Even, MixFor, fourRow, fourBlock, extra};
+ghost use Rattle.compensation.specs.Kernel.{weighed, blended, mixed, Even, MixFor, fourAt, fourRow, fourBlock, extra};
 ghost use Rattle.compensation.specs.Block.{Span};
 use picture::rows::store_row;
 
@@ -135,6 +135,64 @@ pub fn mix_block(
             from + r * stride,
             stride,
             w,
+            mix,
+        );
+        r += 1;
+    }
+}
+
+// The sample whose first tap is i.
+fn mix_sample(src: &[u8], i: usize, below: usize, mix: Mix) -> u8
+    requires { ⌜ Even mix × (i + 1 + below < length (now src)) ⌝ }
+    ensures { λ r. ⌜ r ≡ fourAt (mixed mix) (now (src .entry)) 1 below i ⌝ }
+{
+    let a = src[i];
+    let b = src[i + 1];
+    let c = src[i + below];
+    let d = src[i + 1 + below];
+    match mix {
+        Mix::Weigh(wa, wb, wc, wd) => weigh(a, b, c, d, wa, wb, wc, wd),
+        Mix::Across(near, far) => blend(a, b, c, d, near, far),
+        Mix::Down(near, far) => blend(a, c, b, d, near, far),
+    }
+}
+
+fn mix_pair(dst: &mut [u8], src: &[u8], to: usize, from: usize, below: usize, mix: Mix)
+    requires { ⌜ Even mix ⌝ }
+    requires { ⌜ (to + 2 ≤ length (now dst)) × (from + 2 + below < length (now src)) ⌝ }
+    ensures { λ _. ⌜ now (dst .exit) ≡ row (now (dst .entry)) to (fourRow (mixed mix) (now (src .entry)) 1 below from) 2 ⌝ }
+{
+    let left = mix_sample(src, from, below, mix);
+    let right = mix_sample(src, from + 1, below, mix);
+    dst[to] = left;
+    dst[to + 1] = right;
+}
+
+// A block of two columns: too few for the compiler's way of 4 or 16 at once.
+fn mix_two(
+    dst: &mut [u8],
+    src: &[u8],
+    dstride: usize,
+    dx: usize,
+    dy: usize,
+    h: usize,
+    stride: usize,
+    from: usize,
+    mix: Mix,
+)
+    requires { ⌜ Even mix ⌝ }
+    requires { ⌜ Inside dstride dx dy 2 h (length (now dst)) ⌝ }
+    requires { ⌜ from + h * stride + 2 < length (now src) ⌝ }
+    ensures { λ _. ⌜ now (dst .exit) ≡ painted dstride dx dy 2 h (fourBlock (mixed mix) (now (src .entry)) stride from) (now (dst .entry)) ⌝ }
+{
+    let mut r = 0;
+    while r < h {
+        mix_pair(
+            dst,
+            src,
+            (dy + r) * dstride + dx,
+            from + r * stride,
+            stride,
             mix,
         );
         r += 1;
@@ -312,6 +370,8 @@ pub fn interpolate(
 {
     if extra_of(px, py) == 0 {
         copy_by_width(dst, src, dstride, dx, dy, w, h, stride, from);
+    } else if w == 2 {
+        mix_two(dst, src, dstride, dx, dy, h, stride, from, mix_of(px, py));
     } else {
         mix_block(
             dst,

@@ -1,0 +1,59 @@
+-- `compensation::kernel::mix_two` meets its contract: one row a turn.
+use mathlib.Core.Path.{_≡_, refl, _∙_}
+use Prim.Native.Nat.{_≤_, _+_, _-_, _*_}
+use native.Mathlib.Omega.{arith}
+use denote.Ref.{now}
+use lib.ListN.{length}
+use Rattle.picture.specs.Rows.{rows}
+use Rattle.picture.proofs.Laws.{Row, inside-row, more, rows-more, rows-painted}
+use Rattle.compensation.specs.Kernel.{mixed, fourBlock}
+use Rattle.compensation.proofs.kernel.mix_two.Statement.{statement}
+use Rattle.compensation.proofs.kernel.mix_two.Tie as tie
+
+abbrev Inv-loop : tie.InvT-loop
+Inv-loop dst₀ src dstride dx dy h stride from mix r₀ dst r = (r ≤ h) × (length dst ≡ length dst₀) × (dst ≡ rows dst₀ dstride dx dy (fourBlock (mixed mix) src stride from) 2 r)
+
+abbrev μ-loop : tie.MeasureT-loop
+μ-loop dst₀ src dstride dx dy h stride from mix r₀ dst r = h - r
+
+loop-holds : tie.Need-loop-holds Inv-loop μ-loop
+unfolding rows
+loop-holds c = (omega arith, refl, refl)
+
+-- the row of a turn lies within the block's place, and its taps in the source
+lies : (c : tie.After-mix-pair-arg Inv-loop μ-loop) → let a = c .before .before .before .before .before .args in Row (a .dstride) (a .dx) (a .dy) 2 (c .before .before .loop .r) (length (now (a .dst))) × (c .before .before .loop .r * a .stride + a .stride ≤ a .h * a .stride)
+lies c = let s = c .before .before .before .before .before in (inside-row (s .pre .1 .0) (c .before .loop-test .taken), more (s .args .stride) (c .before .loop-test .taken))
+
+mix-pair-requires : tie.Need-mix-pair-requires Inv-loop μ-loop
+mix-pair-requires c κs = (c .before .before .before .before .before .pre .0, omega (arith, lies c))
+
+loop-again : tie.Need-loop-again Inv-loop μ-loop
+unfolding fourBlock
+loop-again c =
+    let a = c .before .before .before .before .before .before .before .before .args in
+    let l = c .before .before .before .before .before .loop in
+    (omega arith, omega (arith, c .before .before .mix-pair .kept .0), rows-more (a .dst .now) (a .dstride) (a .dx) (a .dy) (fourBlock (mixed (a .mix)) (a .src .now) (a .stride) (a .from)) 2 (l .r) (l .inv .2) (c .before .before .mix-pair .ensures))
+
+returns : tie.Need-returns Inv-loop μ-loop
+returns c =
+    let e : c .before .loop .r ≡ c .before .before .before .before .args .h = omega arith in
+    c .before .loop .inv .2 ∙ rw e (rows-painted 0 _ _ (c .before .before .before .before .pre .1 .0))
+
+pub mix-two-spec : {M : Type 1} → statement M
+mix-two-spec =
+    tie.close
+    (tie.spec
+    Inv-loop
+    μ-loop
+    loop-holds
+    (λ c. omega (arith, lies c))
+    (λ c. omega (arith, lies c))
+    (λ c. omega (arith, lies c))
+    (λ c. omega (arith, lies c))
+    (λ c. omega (arith, lies c))
+    mix-pair-requires
+    (λ c. omega arith)
+    (λ c. omega arith)
+    loop-again
+    (λ c. omega arith)
+    returns)
