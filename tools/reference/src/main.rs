@@ -1,12 +1,13 @@
 //! Asks the published Rust. Without arguments: a query a line on standard input, an answer a line on standard output.
 //! `vectors NAME` writes a fixed list of questions with their answers as bytes, `vectors NAME text` as lines;
-//! `runs COUNT SEED` writes drawn runs as query lines.
+//! `runs COUNT SEED` writes drawn runs as query lines; `printer` prints what document 01's printer is to print.
 
 mod bits;
 mod draw;
 mod guard;
 mod macroblock;
 mod macroblock_list;
+mod printer;
 mod reader;
 mod reader_list;
 mod record;
@@ -23,7 +24,7 @@ mod text;
 mod transcript;
 mod vector;
 
-use std::io::{self, BufRead, Write};
+use std::io::{self, BufRead, Read, Write};
 
 fn main() -> io::Result<()> {
     let arguments: Vec<String> = std::env::args().skip(1).collect();
@@ -44,8 +45,13 @@ fn main() -> io::Result<()> {
             let seed = text::number(seed).map_err(io::Error::other)?;
             out.write_all(run_list::queries(count, seed).as_bytes())?;
         }
+        ["printer"] => {
+            let mut input = Vec::new();
+            io::stdin().read_to_end(&mut input)?;
+            out.write_all(printer::printed(&input).as_bytes())?;
+        }
         _ => {
-            eprintln!("usage: reference [vectors readers|samples|macroblocks|runs [text] | runs COUNT SEED]");
+            eprintln!("usage: reference [vectors readers|samples|macroblocks|runs [text] | runs COUNT SEED | printer]");
             std::process::exit(2);
         }
     }

@@ -16,7 +16,7 @@ pub struct Numbers<'a>(pub &'a [u8]);
 
 impl Numbers<'_> {
     /// Seven bits a byte, lowest first, shortest form, at most 32 bits.
-    fn number(&mut self) -> Result<u32, u8> {
+    pub fn number(&mut self) -> Result<u32, u8> {
         let last = self.0.iter().position(|&byte| byte < 128).ok_or(14)?;
         let (bytes, rest) = self.0.split_at(last + 1);
         self.0 = rest;
@@ -36,7 +36,7 @@ impl Numbers<'_> {
         Ok(if value % 2 == 0 { value / 2 } else { -(value + 1) / 2 } as i32)
     }
 
-    fn call(&mut self) -> Result<[u32; 3], u8> {
+    pub fn call(&mut self) -> Result<[u32; 3], u8> {
         Ok([self.number()?, self.number()?, self.number()?])
     }
 

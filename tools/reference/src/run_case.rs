@@ -37,10 +37,17 @@ pub struct RunAnswer {
     pub accepted: u32,
     pub place: u64,
     pub quantiser: u32,
-    pub transcript: Vec<u8>,
+    /// The records of the accepted calls.
+    pub records: Vec<Vec<u8>>,
     pub replay: u8,
     /// None: all is as it was.
     pub after: Option<Start>,
+}
+
+impl RunAnswer {
+    pub fn transcript(&self) -> Vec<u8> {
+        self.records.concat()
+    }
 }
 
 impl RunCase {
@@ -57,7 +64,7 @@ impl RunCase {
             accepted: 0,
             place: self.lent.place,
             quantiser: self.lent.quantiser,
-            transcript: Vec::new(),
+            records: Vec::new(),
             replay: self.lent.replay().unwrap_or(0),
             after: None,
         };
@@ -74,7 +81,7 @@ impl RunCase {
         let mut state = self.start.clone();
         for &call in all {
             let lent = Lent { quantiser: out.quantiser, place: out.place, ..self.lent.clone() };
-            if let Some(number) = lent.call(call, self.room.saturating_sub(out.transcript.len())) {
+            if let Some(number) = lent.call(call, self.room.saturating_sub(out.transcript().len())) {
                 out.number = number;
                 return;
             }
@@ -87,7 +94,7 @@ impl RunCase {
                     state.keep(&result.left);
                     (out.place, out.quantiser) = (result.left.place, result.left.quantiser);
                     out.accepted += 1;
-                    out.transcript.extend(record);
+                    out.records.push(record);
                     out.after = Some(state.clone());
                 }
             }
@@ -106,7 +113,7 @@ impl RunCase {
         assert_eq!(state.left_bytes(), after.left_bytes());
         let mut again = self.start.clone();
         let mut quantiser = self.lent.quantiser;
-        for record in records(&out.transcript, self.lent.grid).expect("a transcript in form") {
+        for record in records(&out.transcript(), self.lent.grid).expect("a transcript in form") {
             quantiser = record.apply(&mut again, quantiser);
         }
         assert_eq!(quantiser, out.quantiser);
@@ -122,11 +129,12 @@ impl RunCase {
         out.extend(numbers.into_iter().chain([self.lent.quantiser, answer.quantiser]).flat_map(u32::to_le_bytes));
         out.extend([self.lent.place, answer.place].into_iter().flat_map(u64::to_le_bytes));
         out.extend((answer.detail as u32).to_le_bytes());
-        let lengths = [self.list.len(), macroblocks, self.bits.len(), answer.transcript.len(), self.room, 0];
+        let transcript = answer.transcript();
+        let lengths = [self.list.len(), macroblocks, self.bits.len(), transcript.len(), self.room, 0];
         out.extend(lengths.into_iter().chain(self.lent.lengths).flat_map(short));
         assert_eq!(out.len(), HEAD);
         let after = answer.after.as_ref().map_or(Vec::new(), Start::left_bytes);
-        [out, self.list.clone(), self.bits.clone(), answer.transcript, after].concat()
+        [out, self.list.clone(), self.bits.clone(), transcript, after].concat()
     }
 }
 
@@ -221,7 +229,7 @@ impl Record for Case {
             Self::Start(_) | Self::Cells(_) => "-".into(),
             Self::Run(run) => {
                 let a = run.ask();
-                let transcript = hex(&a.transcript);
+                let transcript = hex(&a.transcript());
                 format!(
                     "refused={}:{} accepted={} place={} quantiser={} {transcript}",
                     a.number, a.detail, a.accepted, a.place, a.quantiser

@@ -97,7 +97,7 @@ impl List {
             self.refresh();
             let count = self.draw.below(6) as usize;
             let run = self.run(count, turn % 3 == 2);
-            let transcript = run.ask().transcript;
+            let transcript = run.ask().transcript();
             if !transcript.is_empty() {
                 self.transcripts.push(ReplayCase::plain(&self.state, run.lent.quantiser, transcript));
             }
