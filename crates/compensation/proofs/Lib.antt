@@ -4,4 +4,5 @@ pub mod MixRows
 pub mod Taps
 pub mod Sides
 pub mod Between
+pub mod Multipliers
 pub mod Examples
