@@ -3,7 +3,10 @@
 # make host   a C program that calls the desk library, where cc is at hand
 # make bench  the speed beside the published Rust's, where rustc is at hand
 # make acceptance  a minute of drawn runs through the published Rust and through ours, where rustc is at hand
-.PHONY: demo test compare host bench acceptance
+# make others      the inputs on which other decoders do otherwise, through the printer and the published Rust
+# make fuzz        a minute of drawn inputs through the printer and the published Rust, where rustc is at hand
+# make valgrind    the printer and the C entries under valgrind, where it is at hand
+.PHONY: demo test compare host bench acceptance others fuzz valgrind
 
 demo:
 	tools/demo/run.sh
@@ -22,3 +25,12 @@ bench:
 
 acceptance:
 	tools/acceptance/run.sh
+
+others:
+	tools/others/run.sh
+
+fuzz:
+	tools/fuzz/run.sh
+
+valgrind:
+	tools/valgrind/run.sh

@@ -4,23 +4,12 @@
 #   run.sh                       one minute, with a fresh seed
 #   run.sh seconds S [SEED]      that long
 #   run.sh count N SEED          a fixed part: N runs
+#   run.sh query                 answers `run` queries of tools/reference by the library
 set -eu
 
 here=$(cd "$(dirname "$0")" && pwd)
 root=$(cd "$here/../.." && pwd)
-out=$root/target/acceptance
 
-published=$root/target/reference/reference.lib/libpublished.rlib
-rm -f "$published"
-"$root/tools/reference/build.sh"
-[ -f "$published" ] || exit 0
-if [ "$(uname -m)" != x86_64 ]; then
-    echo "acceptance skipped: the library is for x86-64"
-    exit 0
-fi
-
-mkdir -p "$out"
-(cd "$root" && rt staticlib acceptance) > "$out/staticlib.log" 2>&1 || { cat "$out/staticlib.log"; exit 1; }
-rustc --edition 2024 -O --extern published="$published" -L "native=$root/target/staticlib" -l static=acceptance \
-    -o "$out/acceptance" "$here/src/main.rs"
-"$out/acceptance" "$@"
+"$here/build.sh"
+[ -x "$root/target/acceptance/acceptance" ] || exit 0
+"$root/target/acceptance/acceptance" "$@"

@@ -1,5 +1,6 @@
 //! Compares the proved library with the published Rust, call by call, on drawn runs (README.md beside this folder).
 //! `seconds S [SEED]` or `count N SEED`; without arguments a minute with a fresh seed. Exits with 1 at the first difference.
+//! `query` answers the `run` queries of tools/reference, a line each, by the library alone.
 
 #[allow(dead_code)]
 #[path = "../../reference/src/bits.rs"]
@@ -32,10 +33,13 @@ mod asked;
 mod case;
 mod compare;
 mod ours;
+mod query;
+mod seed;
 mod tally;
 
 use draw::Draw;
-use std::time::{Duration, Instant, SystemTime};
+use seed::{fresh, mixed};
+use std::time::{Duration, Instant};
 use tally::Tally;
 
 /// When to stop.
@@ -47,6 +51,13 @@ enum Until {
 fn main() {
     let arguments: Vec<String> = std::env::args().skip(1).collect();
     let words: Vec<&str> = arguments.iter().map(String::as_str).collect();
+    if words == ["query"] {
+        for line in std::io::stdin().lines() {
+            let answer = line.map_err(|error| error.to_string()).and_then(|line| query::answer(&line));
+            println!("{}", answer.unwrap_or_else(|problem| format!("bad {problem}")));
+        }
+        return;
+    }
     let (until, seed) = match words.as_slice() {
         [] => (Until::Time(Duration::from_secs(60)), fresh()),
         ["seconds", s] => (Until::Time(Duration::from_secs(number(s))), fresh()),
@@ -85,23 +96,11 @@ fn one(drawn: u32, tally: &mut Tally) -> Result<(), String> {
     asked::wrong_start(&case, &mut draw, tally)
 }
 
-/// The seed of run n.
-fn mixed(seed: u64, n: u64) -> u32 {
-    let mut z = seed.wrapping_add((n + 1).wrapping_mul(0x9e37_79b9_7f4a_7c15));
-    z = (z ^ z >> 30).wrapping_mul(0xbf58_476d_1ce4_e5b9);
-    z = (z ^ z >> 27).wrapping_mul(0x94d0_49bb_1331_11eb);
-    (z ^ z >> 31) as u32
-}
-
-fn fresh() -> u64 {
-    SystemTime::now().duration_since(SystemTime::UNIX_EPOCH).map_or(1, |since| since.as_nanos() as u64)
-}
-
 fn number(word: &str) -> u64 {
     word.parse().unwrap_or_else(|_| usage())
 }
 
 fn usage() -> ! {
-    eprintln!("usage: acceptance [seconds S [SEED] | count N SEED]");
+    eprintln!("usage: acceptance [seconds S [SEED] | count N SEED | query]");
     std::process::exit(2);
 }

@@ -1,0 +1,21 @@
+#!/bin/sh
+# Proves and builds the library, and builds target/acceptance/acceptance with it (README.md in this folder). Needs rustc and the Rust's source.
+set -eu
+
+here=$(cd "$(dirname "$0")" && pwd)
+root=$(cd "$here/../.." && pwd)
+out=$root/target/acceptance
+
+published=$root/target/reference/reference.lib/libpublished.rlib
+rm -f "$published" "$out/acceptance"
+"$root/tools/reference/build.sh"
+[ -f "$published" ] || exit 0
+if [ "$(uname -m)" != x86_64 ]; then
+    echo "acceptance skipped: the library is for x86-64"
+    exit 0
+fi
+
+mkdir -p "$out"
+(cd "$root" && rt staticlib acceptance) > "$out/staticlib.log" 2>&1 || { cat "$out/staticlib.log"; exit 1; }
+rustc --edition 2024 -O --extern published="$published" -L "native=$root/target/staticlib" -l static=acceptance \
+    -o "$out/acceptance" "$here/src/main.rs"
