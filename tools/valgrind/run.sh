@@ -43,9 +43,11 @@ if [ -x "$root/target/acceptance/acceptance" ]; then
     cat "$out/acceptance.printed"
 fi
 
-"$root/tools/host/run.sh" > "$out/host.out"
+"$root/tools/host/run.sh" > "$out/host.out" || { cat "$out/host.out"; exit 1; }
 if [ -x "$root/target/host/host" ]; then
     echo "C host:"
     checked host "$root/target/host/host"
     cmp "$out/host.printed" "$root/tools/host/expected"
+else
+    cat "$out/host.out"
 fi
