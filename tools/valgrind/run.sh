@@ -3,14 +3,14 @@
 # (tools/fuzz), drawn runs through the C entries (tools/acceptance), and the C host (tools/host); what they print is
 # compared as without valgrind. Needs valgrind, and rustc and the Rust's source for the first two.
 #
-#   run.sh [INPUTS [RUNS [SEED]]]      300 inputs, 300 runs, seed 1
+#   run.sh [INPUTS [RUNS [SEED]]]      300 inputs, 2000 runs, seed 1
 set -eu
 
 here=$(cd "$(dirname "$0")" && pwd)
 root=$(cd "$here/../.." && pwd)
 out=$root/target/valgrind
 inputs=${1:-300}
-runs=${2:-300}
+runs=${2:-2000}
 seed=${3:-1}
 
 if ! command -v valgrind >/dev/null 2>&1; then
