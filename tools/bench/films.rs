@@ -73,7 +73,7 @@ fn measured(film: &Film) -> Row {
     let Film { run, list } = film;
     let macroblocks = run.calls.len() as f64;
     let header = access_header(run.columns, run.rows, run.half, run.third);
-    let start = Start::of(run, RECORD * run.calls.len());
+    let start = Start::of(run, room(film));
     let (mut theirs, mut ours, mut again, mut copied) = (Vec::new(), Vec::new(), Vec::new(), Vec::new());
     for _ in 0..ROUNDS {
         let mut access = Access::new(&header, run.reference.as_ref()).expect("a grid");
@@ -114,9 +114,17 @@ fn measured(film: &Film) -> Row {
     Row { reference: median(theirs), run: median(ours), replay: median(again), copy: median(copied) }
 }
 
+/// Transcript bytes for a film's records and for the longest record behind them: each call asks for that much.
+fn room(film: &Film) -> usize {
+    let Film { run, list } = film;
+    let mut state = Start::of(run, RECORD * run.calls.len());
+    let told = state.run(list, &run.bits, run.place, COUNTS);
+    told.counts[2] as usize + RECORD
+}
+
 /// The bytes of stack that a run takes.
 fn stack_of(film: &Film) -> usize {
     let Film { run, list } = film;
-    let mut state = Start::of(run, RECORD * run.calls.len());
+    let mut state = Start::of(run, room(film));
     stack::used(|| assert_eq!(state.run(list, &run.bits, run.place, COUNTS).code, 0))
 }

@@ -19,7 +19,8 @@ use Rattle.ints.proofs.Linear.{z-rules, add-z, abs-z, mag-z}
 use Rattle.ints.proofs.Laws.{clamp-low, floor-shift}
 use Rattle.compensation.specs.Sample.{nearest, tap, sampleAt, sixths, blockSample}
 use Rattle.compensation.specs.Formula.{along, formula}
-use Rattle.compensation.specs.Block.{Whole}
+use Rattle.compensation.specs.Block.{Whole, Span}
+use Rattle.compensation.specs.Taps.{Placed}
 use Rattle.compensation.specs.Kernel.{originOf, near, nearFrom, picked, pickedAt, lineAt, windowAt, windowBlock, fourAt, fourRow, fourBlock, extra}
 
 -- ---- places before and past a line of n
@@ -102,15 +103,12 @@ window-sample plane width height x y vx vy r c lr lc =
     let b′ = second height y vy r lr in
     λ i. formula (phase width x vx c i) (phase height y vy r i) (at (b i) (a i)) (at (b i) (a′ i)) (at (b′ i) (a i)) (at (b′ i) (a′ i))
 
--- what a block is read by: phases, and the place of its first tap
-pub record Placed (width height : ℕ) (x y vx vy : ℤ) (bx by px py : ℕ) : Type 0 where
-  pub across-phase : px ≡ modZ vx 6
-  pub down-phase : py ≡ modZ vy 6
-  pub across : bx ≡ originOf width (x +ℤ floorZ vx 6)
-  pub down : by ≡ originOf height (y +ℤ floorZ vy 6)
-
 pub placed-sample : (plane : List ℕ) {width height : ℕ} {x y vx vy : ℤ} {bx by px py : ℕ} → Placed width height x y vx vy bx by px py → (r c : ℕ) → r < 16 → c < 16 → windowBlock (formula px py) plane width height bx by r c ≡ blockSample plane width height x y vx vy r c
 placed-sample plane {width} {height} {x} {y} {vx} {vy} p r c lr lc = rw (p .across-phase, p .down-phase, p .across, p .down) (window-sample plane width height x y vx vy r c lr lc)
+
+pub placed-block : (plane : List ℕ) {width height : ℕ} {x y vx vy : ℤ} {bx by px py : ℕ} → Placed width height x y vx vy bx by px py → (stride dx dy w h : ℕ) (l : List ℕ) → Span w h
+    → painted stride dx dy w h (windowBlock (formula px py) plane width height bx by) l ≡ painted stride dx dy w h (blockSample plane width height x y vx vy) l
+placed-block plane p stride dx dy w h l s = painted-values stride dx dy w h _ _ l (λ r c lr lc. placed-sample plane p r c (omega arith) (omega arith))
 
 -- ---- whole samples alone read one tap each
 pub extra-none : extra 0 0 ≡ 0

@@ -2,3 +2,4 @@ pub mod Formula
 pub mod Sample
 pub mod Block
 pub mod Kernel
+pub mod Taps

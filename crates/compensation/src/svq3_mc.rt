@@ -7,6 +7,7 @@ ghost use Rattle.picture.specs.Painted.{Inside, painted};
 ghost use Rattle.compensation.specs.Formula.{formula};
 ghost use Rattle.compensation.specs.Sample.{blockSample};
 ghost use Rattle.compensation.specs.Kernel.{windowBlock};
+ghost use Rattle.compensation.specs.Taps.{Placed, TapsIn};
 ghost use Rattle.compensation.specs.Block.{Whole, Span, sidesFit, blockAnswer, blockOut, halved};
 use crate::kernel::extra_of;
 use crate::kernel::interpolate;
@@ -56,8 +57,49 @@ fn across_edge(
     interpolate(dst, &window, dstride, dx, dy, w, h, w + 1, 0, px, py);
 }
 
-// The w × h block at (x, y) of `plane` with the vector (vx, vy), into `dst` at column dx of row dy.
-pub fn compensate_into(
+// How a block reads its taps: the phases, where its first tap lies as `origin` counts, and whether all lie inside the plane.
+pub struct Taps {
+    pub px: u32,
+    pub py: u32,
+    pub bx: usize,
+    pub by: usize,
+    pub inside: bool,
+}
+
+// The taps of the w × h block at (x, y) of a plane with the vector (vx, vy).
+pub fn taps_of(
+    w: usize,
+    h: usize,
+    width: usize,
+    height: usize,
+    x: i32,
+    y: i32,
+    vx: i32,
+    vy: i32,
+) -> Taps
+    requires { ⌜ Span w h × (0 < width) × (width ≤ 65536) × (0 < height) × (height ≤ 65536) ⌝ }
+    ensures { λ r. ⌜ Placed width height x y vx vy (r .bx) (r .by) (r .px) (r .py) ⌝ }
+    ensures { λ r. ⌜ TapsIn width height w h r ⌝ }
+{
+    let sx = split_mv_component(vx);
+    let sy = split_mv_component(vy);
+    let px = sx.phase;
+    let py = sy.phase;
+    let bx = origin(x, sx.whole, width);
+    let by = origin(y, sy.whole, height);
+    let e = extra_of(px, py);
+    let inside = (17 <= bx) & (bx + w + e <= width + 17) & (17 <= by) & (by + h + e <= height + 17);
+    Taps {
+        px,
+        py,
+        bx,
+        by,
+        inside,
+    }
+}
+
+// A block by its taps, into `dst` at column dx of row dy.
+pub fn compensate_taps(
     dst: &mut [u8],
     plane: &[u8],
     dstride: usize,
@@ -67,22 +109,16 @@ pub fn compensate_into(
     h: usize,
     width: usize,
     height: usize,
-    x: i32,
-    y: i32,
-    vx: i32,
-    vy: i32,
+    t: Taps,
 )
-    requires { ⌜ Span w h × Inside dstride dx dy w h (length (now dst)) × Whole width height (length (now plane)) ⌝ }
-    ensures { λ _. ⌜ now (dst .exit) ≡ painted dstride dx dy w h (blockSample (now (plane .entry)) width height x y vx vy) (now (dst .entry)) ⌝ }
+    requires { ⌜ Span w h × Inside dstride dx dy w h (length (now dst)) × Whole width height (length (now plane)) × TapsIn width height w h t ⌝ }
+    ensures { λ _. ⌜ now (dst .exit) ≡ painted dstride dx dy w h (windowBlock (formula (t .px) (t .py)) (now (plane .entry)) width height (t .bx) (t .by)) (now (dst .entry)) ⌝ }
 {
-    let sx = split_mv_component(vx);
-    let sy = split_mv_component(vy);
-    let px = sx.phase;
-    let py = sy.phase;
-    let bx = origin(x, sx.whole, width);
-    let by = origin(y, sy.whole, height);
-    let e = extra_of(px, py);
-    if (17 <= bx) & (bx + w + e <= width + 17) & (17 <= by) & (by + h + e <= height + 17) {
+    let px = t.px;
+    let py = t.py;
+    let bx = t.bx;
+    let by = t.by;
+    if t.inside {
         let from = (by - 17) * width + (bx - 17);
         interpolate(dst, plane, dstride, dx, dy, w, h, width, from, px, py);
     } else {
@@ -102,6 +138,29 @@ pub fn compensate_into(
             py,
         );
     }
+}
+
+// The w × h block at (x, y) of `plane` with the vector (vx, vy), into `dst` at column dx of row dy.
+pub fn compensate_into(
+    dst: &mut [u8],
+    plane: &[u8],
+    dstride: usize,
+    dx: usize,
+    dy: usize,
+    w: usize,
+    h: usize,
+    width: usize,
+    height: usize,
+    x: i32,
+    y: i32,
+    vx: i32,
+    vy: i32,
+)
+    requires { ⌜ Span w h × Inside dstride dx dy w h (length (now dst)) × Whole width height (length (now plane)) ⌝ }
+    ensures { λ _. ⌜ now (dst .exit) ≡ painted dstride dx dy w h (blockSample (now (plane .entry)) width height x y vx vy) (now (dst .entry)) ⌝ }
+{
+    let t = taps_of(w, h, width, height, x, y, vx, vy);
+    compensate_taps(dst, plane, dstride, dx, dy, w, h, width, height, t);
 }
 
 pub enum BlockAnswer {
