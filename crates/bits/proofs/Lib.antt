@@ -1,5 +1,7 @@
+pub mod Table
 pub mod BitAt
 pub mod CodeStep
+pub mod CodeStarts
 pub mod Unique
 pub mod SignedCode
 pub mod Answers

@@ -1,9 +1,10 @@
 // A bit of a slice of bytes, and question 7.
 ghost use mathlib.Core.Path.{_≡_};
 ghost use mathlib.Core.Bool.{false};
-ghost use Prim.Native.Nat.{_<_, _/_};
-ghost use lib.ListN.{length, getD};
-ghost use Rattle.bits.specs.Bits.{bitList, placeIn};
+ghost use mathlib.Core.List.{_++_};
+ghost use Prim.Native.Nat.{_+_, _<_, _/_};
+ghost use lib.ListN.{length, getD, drop};
+ghost use Rattle.bits.specs.Bits.{byteBits, bitList, placeIn};
 
 // The bit at a place, highest first in each byte.
 pub fn bit_at(bits: &[u8], at: usize) -> bool
@@ -13,6 +14,22 @@ pub fn bit_at(bits: &[u8], at: usize) -> bool
     let i = at / 8;
     let shift = 7 - at % 8;
     (bits[i] >> shift) % 2 == 1
+}
+
+fn wide(x: u8) -> u32
+    ensures { λ r. ⌜ r ≡ x ⌝ }
+{
+    x as u32
+}
+
+// The eight bits from a place on, as a byte.
+pub fn byte_at(bits: &[u8], at: usize) -> u32
+    requires { ⌜ at / 8 + 1 < length (now bits) ⌝ }
+    ensures { λ r. ⌜ (r < 256) × (drop at (bitList (now (bits .entry))) ≡ byteBits r ++ drop (at + 8) (bitList (now (bits .entry)))) ⌝ }
+{
+    let i = at / 8;
+    let two = 256 * wide(bits[i]) + wide(bits[i + 1]);
+    ((two << (at % 8)) >> 8) % 256
 }
 
 // Question 7. By a division: eight times the length may not fit.

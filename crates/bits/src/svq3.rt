@@ -1,10 +1,13 @@
 // The universal code.
 ghost use mathlib.Core.Path.{_≡_};
-ghost use Prim.Native.Nat.{_<_, _^_};
+ghost use Prim.Native.Nat.{_+_, _*_, _≤_, _<_, _^_};
 ghost use lib.ListN.{length, drop};
 ghost use Rattle.bits.specs.Bits.{bitList};
-ghost use Rattle.bits.specs.Code.{code, codeAnswer};
+ghost use Rattle.bits.specs.Code.{codeFrom, code, codeAnswer, Short};
 use crate::bitreader::bit_at;
+use crate::bitreader::byte_at;
+use crate::code_starts::CodeStart;
+use crate::code_starts::code_start;
 use refusal::Refusal;
 
 pub enum CodeAnswer {
@@ -13,15 +16,16 @@ pub enum CodeAnswer {
     Refused(Refusal),
 }
 
-pub fn read_universal_code(bits: &[u8], at: usize) -> CodeAnswer
-    requires { ⌜ length (now bits) < 2 ^ 61 ⌝ }
-    ensures { λ r. ⌜ r ≡ codeAnswer at (code (drop at (bitList (now (bits .entry))))) ⌝ }
+// Bit by bit from a marker on: `head` is a 1 followed by the data bits before it, and `spare` data bits may still come.
+fn read_on(bits: &[u8], at: usize, head: u32, spare: u32) -> CodeAnswer
+    requires { ⌜ (length (now bits) < 2 ^ 61) × ((head + 1) * 2 ^ spare ≤ 2 ^ 32) × (0 < head) ⌝ }
+    ensures { λ r. ⌜ r ≡ codeAnswer at (codeFrom spare head (drop at (bitList (now (bits .entry))))) ⌝ }
 {
     let n = bits.len();
     let mut p = at;
     // a 1 followed by the data bits read so far
-    let mut m: u32 = 1;
-    let mut room: u32 = 31;
+    let mut m = head;
+    let mut room = spare;
     loop {
         if n <= p / 8 {
             return CodeAnswer::Refused(Refusal::Truncated);
@@ -46,4 +50,35 @@ pub fn read_universal_code(bits: &[u8], at: usize) -> CodeAnswer
         room -= 1;
         p = d + 1;
     }
+}
+
+// A code of at most seven bits at a place. Where none is found, `before` is 8; in the last byte none is sought.
+pub fn short_code(bits: &[u8], at: usize) -> CodeStart
+    requires { ⌜ length (now bits) < 2 ^ 61 ⌝ }
+    ensures { λ r. ⌜ Short (drop at (bitList (now (bits .entry)))) (r .before) (r .head) ⌝ }
+{
+    if bits.len() <= at / 8 + 1 {
+        return CodeStart {
+            before: 8,
+            head: 16,
+        };
+    }
+    code_start(byte_at(bits, at))
+}
+
+// A code of at most seven bits is found in the eight bits at its place, a longer one is read from the ninth bit on.
+pub fn read_universal_code(bits: &[u8], at: usize) -> CodeAnswer
+    requires { ⌜ length (now bits) < 2 ^ 61 ⌝ }
+    ensures { λ r. ⌜ r ≡ codeAnswer at (code (drop at (bitList (now (bits .entry))))) ⌝ }
+{
+    if bits.len() <= at / 8 + 1 {
+        return read_on(bits, at, 1, 31);
+    }
+    let start = code_start(byte_at(bits, at));
+    let before = start.before;
+    let head = start.head;
+    if before == 8 {
+        return read_on(bits, at + 8, head, 27);
+    }
+    CodeAnswer::Code(head - 1, at + before as usize + 1)
 }

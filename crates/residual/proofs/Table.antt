@@ -1,35 +1,10 @@
--- A rule at every number below a bound, proved by one test that antt computes; and equality of ℤ as a test.
+-- A rule at every number below a bound (crate bits); and equality of ℤ as a test.
 -- Assumes nothing.
-use mathlib.Core.Path.{_≡_, refl, ap, subst, sym}
-use mathlib.Core.Bool.{Bool, true, false, _&&_}
-use Prim.Native.Nat.{ℕ, zero, suc, _<_}
-use native.Mathlib.Omega.{arith}
-use borrow.Author.Tests.{ltb-true, ltb-false}
-use lib.Dec.{T, eqb, ltb, eqb→eq}
+use mathlib.Core.Path.{_≡_, ap}
+use mathlib.Core.Bool.{Bool, false}
+use lib.Dec.{T, eqb, eqb→eq}
 use lib.IntN.{ℤ, pos, negsuc}
-
-pub both-left : (a b : Bool) → T (a && b) → T a
-both-left true b t = tt
-both-left false b t = t
-
-pub both-right : (a b : Bool) → T (a && b) → T b
-both-right true b t = t
-both-right false b t = absurd t
-
--- the test f passes at each number below n
-abbrev pub every : (ℕ → Bool) → ℕ → Bool
-every f zero = true
-every f (suc n) = every f n && f n
-
-pub at : (f : ℕ → Bool) (n : ℕ) → T (every f n) → (k : ℕ) → k < n → T (f k)
-at f zero t k h = absurd (omega arith)
-at f (suc n) t k h = last (ltb k n) refl (at f n (both-left (every f n) (f n) t) k)
-  where
-    last : (b : Bool) → ltb k n ≡ b → (k < n → T (f k)) → T (f k)
-    last true e g = g (ltb-true k n e)
-    last false e g =
-        let i : k ≡ n = omega (arith, ltb-false k n e) in
-        subst (λ (m : ℕ). T (f m)) (sym i) (both-right (every f n) (f n) t)
+pub use Rattle.bits.proofs.Table.{both-left, both-right, every, at}
 
 abbrev pub sameZ : ℤ → ℤ → Bool
 sameZ (pos a) (pos b) = eqb a b

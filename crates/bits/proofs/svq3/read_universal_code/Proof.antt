@@ -1,125 +1,60 @@
--- `bits::svq3::read_universal_code` answers `code` at its place. The invariant: reading on from the marker at p gives the answer, and m has room for the data bits that may come.
-use mathlib.Core.Path.{_≡_, refl, sym, _∙_}
-use mathlib.Core.Logic.{⊎-elim}
-use lib.Dec.{lit<, lit≤}
-use Rattle.bits.proofs.CodeStep.{codeRest, ends, stops, too-long, cut, turn, more, doubled, value-le}
-use Rattle.bits.specs.Code.{bitValue}
-use Prim.Native.Nat.{_≤_, _<_, _+_, _*_, _^_}
-use borrow.Author.Needs.{needs}
+-- `bits::svq3::read_universal_code` answers `code` at its place: by what the eight bits there say, where there are eight.
+use mathlib.Core.Path.{_≡_, _∙_}
+use mathlib.Core.List.{[]}
 use native.Mathlib.Omega.{arith}
-use lib.ListN.{length, drop}
+use borrow.Author.Needs.{needs}
+use lib.ListN.{drop}
 use Rattle.bits.specs.Bits.{bitList}
-use Rattle.bits.specs.Code.{code, codeAnswer}
+use Rattle.bits.specs.Code.{code}
+use Rattle.bits.proofs.CodeStarts.{at-place, at-once, later}
 use Rattle.bits.proofs.svq3.read_universal_code.Statement.{statement}
 use Rattle.bits.proofs.svq3.read_universal_code.Tie as tie
-use Rattle.bits.proofs.svq3.read_universal_code.Reads as reads
-use Rattle.bits.proofs.svq3.read_universal_code.Lts as lts
-use Rattle.bits.proofs.bitreader.bit_at.Reads as bit-at-reads
 
-abbrev Inv-loop : tie.InvT-loop
-Inv-loop bits at n p₀ m₀ room₀ p m room = (codeRest bits p room m ≡ codeAnswer at (code (drop at (bitList bits)))) × ((m + 1) * 2 ^ room ≤ 2 ^ 32) × (0 < m)
-
-abbrev μ-loop : tie.MeasureT-loop
-μ-loop bits at n p₀ m₀ room₀ p m room = room
-
-loop-holds : tie.Need-loop-holds Inv-loop μ-loop
+returns : tie.Need-returns
 unfolding code
-loop-holds c = (refl, lit≤ tt, lit< tt)
+returns c = c .read-on .ensures
 
-returns : tie.Need-returns Inv-loop μ-loop
-returns c =
-    let l = c .before .loop in
-    let a = c .before .before .before .args in
-    sym (ends (a .bits .now) (l .p) (l .room) (l .m) (c .if1 .taken)) ∙ l .inv .0
+read-on-requires-2 : tie.Need-read-on-requires-2
+read-on-requires-2 c κs = let s = c .before .code-start .ensures .short [] in (omega arith, omega arith, s .some)
 
-bit-at-requires : tie.Need-bit-at-requires Inv-loop μ-loop
-bit-at-requires c κs = omega arith
-
-sub-k : tie.Need-sub-k Inv-loop μ-loop
-sub-k c = omega arith
-
-add-next : tie.Need-add-next Inv-loop μ-loop
-add-next c = omega arith
-
-returns-2 : tie.Need-returns-2 Inv-loop μ-loop
+returns-2 : tie.Need-returns-2
 returns-2 c =
-    let l = c .before .before .before .loop in
-    let a = c .before .before .before .before .before .args in
-    sym (stops (a .bits .now) (l .p) (l .room) (l .m) (omega arith) (sym (c .if2 .taken) ∙ c .before .bit-at .ensures)) ∙ l .inv .0
-
-returns-3 : tie.Need-returns-3 Inv-loop μ-loop
-returns-3 c =
-    let l = c .before .before .before .before .loop in
     let a = c .before .before .before .before .before .before .args in
-    sym (too-long (a .bits .now) (l .p) (l .room) (l .m) (omega arith) (sym (c .before .if2 .left) ∙ c .before .before .bit-at .ensures) (c .if3 .taken)) ∙ l .inv .0
+    let w = c .before .before .before .byte-at in
+    let s = c .before .before .code-start in
+    c .read-on2 .ensures ∙ later (bitList (a .bits .now)) (a .at) (w .result) (s .result .before) (s .result .head) (w .ensures .1) (s .ensures) (c .before .if2 .taken)
 
-add-d : tie.Need-add-d Inv-loop μ-loop
-add-d c = omega arith
+sub-t10 : tie.Need-sub-t10
+sub-t10 c = let s = c .before .code-start .ensures .short [] in omega arith
 
-returns-4 : tie.Need-returns-4 Inv-loop μ-loop
-returns-4 c =
-    let l = c .before .before .before .before .before .loop in
-    let a = c .before .before .before .before .before .before .before .args in
-    sym (cut (a .bits .now) (l .p) (l .room) (l .m) (omega arith) (sym (c .before .before .if2 .left) ∙ c .before .before .before .bit-at .ensures) (omega arith) (c .if4 .taken)) ∙ l .inv .0
+add-t7 : tie.Need-add-t7
+add-t7 c = let s = c .before .code-start .ensures .short [] in omega arith
 
-bit-at-requires-2 : tie.Need-bit-at-requires-2 Inv-loop μ-loop
-bit-at-requires-2 c κs = omega arith
+add-t8 : tie.Need-add-t8
+add-t8 c = let s = c .before .code-start .ensures .short [] in omega arith
 
-mul-m : tie.Need-mul-m Inv-loop μ-loop
-mul-m c =
-    let l = c .before .before .before .before .before .before .before .loop in
-    omega (arith, doubled (l .room) (l .m) (omega arith) (l .inv .1))
-
-add-m : tie.Need-add-m Inv-loop μ-loop
-add-m c =
-    let l = c .before .before .before .before .before .before .before .loop in
-    omega (arith, doubled (l .room) (l .m) (omega arith) (l .inv .1))
-
-mul-m-2 : tie.Need-mul-m-2 Inv-loop μ-loop
-mul-m-2 c =
-    let l = c .before .before .before .before .before .before .before .loop in
-    omega (arith, doubled (l .room) (l .m) (omega arith) (l .inv .1))
-
-sub-room : tie.Need-sub-room Inv-loop μ-loop
-sub-room c = omega arith
-
-add-p : tie.Need-add-p Inv-loop μ-loop
-add-p c = omega arith
-
-loop-less : tie.Need-loop-less Inv-loop μ-loop
-loop-less c = omega arith
-
-loop-again : tie.Need-loop-again Inv-loop μ-loop
-loop-again c =
-    let l = c .before .before .before .before .before .before .before .loop in
-    let a = c .before .before .before .before .before .before .before .before .before .args in
-    let d = c .before .bit-at2 .result in
-    let m′ : c .if5 .m ≡ 2 * l .m + bitValue d = ⊎-elim (λ w. rw (w .0 .taken) (w .1)) (λ w. rw (w .0 .left) (omega arith)) (c .if5 .came) in (
-      rw m′ (sym (turn (a .bits .now) (l .p) (l .room) (l .m) d (omega arith) (sym (c .before .before .before .before .if2 .left) ∙ c .before .before .before .before .before .bit-at .ensures) (omega arith) (omega arith) (c .before .bit-at2 .ensures)) ∙ l .inv .0),
-      rw m′ (more (l .room) (l .m) (bitValue d) (omega arith) (value-le d) (l .inv .1)),
-      omega arith,
-    )
+returns-3 : tie.Need-returns-3
+returns-3 c =
+    let a = c .before .before .before .before .before .args in
+    let w = c .before .before .byte-at in
+    let s = c .before .code-start in
+    let found = at-place (bitList (a .bits .now)) (a .at) (w .result) (s .result .before) (s .result .head) (w .ensures .1) (s .ensures) in
+    at-once (drop (a .at) (bitList (a .bits .now))) (a .at) (s .result .before) (s .result .head) found (omega (arith, found .within, c .if2 .left))
 
 pub read-universal-code-spec : {M : Type 1} → statement M
 read-universal-code-spec =
     tie.close
     (tie.spec
-    Inv-loop
-    μ-loop
-    loop-holds
+    (λ c. search needs)
+    (λ c κs. search needs)
     returns
-    bit-at-requires
-    sub-k
-    add-next
+    (λ c κs. search needs)
+    (λ c κs. search needs)
+    (λ c. search needs)
+    read-on-requires-2
     returns-2
-    returns-3
-    add-d
-    returns-4
-    bit-at-requires-2
-    mul-m
-    add-m
-    mul-m-2
-    sub-room
-    add-p
-    loop-less
-    loop-again)
+    sub-t10
+    (λ c. search needs)
+    add-t7
+    add-t8
+    returns-3)
