@@ -3,16 +3,19 @@
 use mathlib.Core.Path.{_≡_, refl, sym, ap, ap₂, subst, _∙_}
 use mathlib.Core.Bool.{Bool, true, false, cond, _&&_}
 use mathlib.Core.List.{List, _∷_, _++_}
-use Prim.Native.Nat.{ℕ, _+_, _-_, _*_, _/_, _<_}
+use Prim.Native.Nat.{ℕ, _+_, _-_, _*_, _/_, _<_, _≤_}
 use native.Mathlib.Omega.{arith}
 use lib.Dec.{T, eqb, eqb→eq}
-use lib.ListN.{drop}
+use lib.ListN.{length, drop, length-drop}
 use Rattle.refusal.specs.Got.{Got, got, refused, after}
-use Rattle.bits.specs.Bits.{odd, byteBits}
+use Rattle.refusal.proofs.Formats.{bounded}
+use Rattle.bits.specs.Bits.{odd, byteBits, bitList}
 use Rattle.bits.specs.Code.{codeFrom, code, bitValue, codeAnswer, Short, Starts}
 use Rattle.bits.specs.declared.svq3.CodeAnswer.the-variants.{Code}
 use Rattle.bits.proofs.Table.{both-left, both-right, every, at}
+use Rattle.bits.proofs.BitAt.{length-bits}
 use Rattle.bits.proofs.CodeStep.{moved, value-le}
+use Rattle.bits.proofs.Unique.{code-format}
 
 -- a 1 followed by data bits
 abbrev one : Bool → ℕ
@@ -97,3 +100,7 @@ module _ (bits : List Bool) (p w n m : ℕ) (begins : drop p bits ≡ byteBits w
 -- ---- a short code that was found is the answer
 pub at-once : (s : List Bool) (p n m : ℕ) → Short s n m → n < 8 → Code (m - 1) (p + n + 1) ≡ codeAnswer p (code s)
 at-once s p n m found h = rw (found .ends h) (ap (Code (m - 1)) (omega arith))
+
+-- and its bits are there
+pub inside : (s : List ℕ) (p n m : ℕ) → Short (drop p (bitList s)) n m → n < 8 → p + n + 1 ≤ 8 * length s
+inside s p n m found h = omega (arith, bounded code-format (drop p (bitList s)) (m - 1) (n + 1) (found .ends h), length-drop p (bitList s), length-bits s)

@@ -60,15 +60,8 @@ pub negative : (k m : ℕ) → (k % 2 ≡ 1 → ⊥) → m < 2 ^ 31 → toZ w32 
 unfolding levelOf
 negative k m o h = rw (ne-eqb (k % 2) 1 o) (neg-is m h)
 
--- ---- an entry's magnitude fits, and level and run are what the book says: h is half of the code k, z the level
-fitsRight : ResidualBook → ℕ → Bool
-fitsRight book k = ltb (getD (magnitudes book) (half k) 0) (2 ^ 31)
-
+-- ---- level and run are what the book says: h is half of the code k, z the level
 module _ (book : ResidualBook) (k h : ℕ) (half-is : h ≡ half k) where
-  pub entry-fits : k < escape book → getD (magnitudes book) h 0 < 2 ^ 31
-  unfolding fitsRight magnitudes
-  entry-fits l = rw half-is (ltb→lt (getD (magnitudes book) (half k) 0) (2 ^ 31) (by-entries fitsRight tt tt book k l))
-
   module _ (z : ℤ) (fits : mag z < 2 ^ 31) where
     pub entry-said : k < escape book → z ≡ levelOf k (getD (magnitudes book) h 0) → Pair (toZ w32 (ofZ w32 z)) (getD (runs book) h 0) ≡ Pair (level book k) (run book k)
     unfolding level magnitude run

@@ -6,10 +6,12 @@ ghost use lib.Seq.{sets};
 ghost use Rattle.bits.specs.Bits.{bitList};
 ghost use Rattle.residual.specs.Book.{positions, half, levelOf, level, run, resolve};
 ghost use Rattle.residual.specs.Levels.{levelRun, block, stepAnswer, Decoded};
+use crate::digits::digit;
 use crate::svq3_scan::place_of;
 use crate::svq3_scan::positions_of;
 use bits::svq3::CodeAnswer;
 use bits::svq3::read_universal_code;
+use bits::svq3::short_code;
 use refusal::Refusal;
 
 // The inter macroblock's two books.
@@ -28,14 +30,14 @@ pub enum LevelRun {
     Pair(i32, u32),
 }
 
-// Magnitude and run by (code + 1) / 2: codes 2 h - 1 and 2 h have those of entry h, the one positive, the other negative.
-const NORMAL_SCAN_MAGNITUDES: [u32; 16] = [0, 1, 1, 1, 2, 1, 1, 1, 3, 2, 2, 1, 1, 1, 1, 4];
+// Magnitude and run by (code + 1) / 2: codes 2 h - 1 and 2 h have those of digit h, the one positive, the other negative.
+const NORMAL_SCAN_MAGNITUDES: u64 = 0x4111_1223_1112_1110;
 
-const NORMAL_SCAN_RUNS: [u32; 16] = [0, 0, 1, 2, 0, 3, 4, 5, 0, 1, 2, 6, 7, 8, 9, 0];
+const NORMAL_SCAN_RUNS: u64 = 0x0987_6210_5430_2100;
 
-const CHROMA_DC_MAGNITUDES: [u32; 12] = [0, 1, 2, 1, 3, 2, 1, 1, 4, 3, 2, 2];
+const CHROMA_DC_MAGNITUDES: u64 = 0x0000_2234_1123_1210;
 
-const CHROMA_DC_RUNS: [u32; 12] = [0, 0, 0, 1, 0, 1, 2, 3, 0, 1, 2, 3];
+const CHROMA_DC_RUNS: u64 = 0x0000_3210_3210_1000;
 
 // The first code that is no entry of the tables.
 const NORMAL_SCAN_ESCAPE: u32 = 31;
@@ -69,11 +71,9 @@ fn normal_level_run(code: u32) -> LevelRun
 {
     let half = half_of(code);
     if code < NORMAL_SCAN_ESCAPE {
-        let i = half as usize;
-        return LevelRun::Pair(
-            level_of(code, NORMAL_SCAN_MAGNITUDES[i]),
-            NORMAL_SCAN_RUNS[i],
-        );
+        let magnitude = digit(NORMAL_SCAN_MAGNITUDES, half);
+        let run = digit(NORMAL_SCAN_RUNS, half);
+        return LevelRun::Pair(level_of(code, magnitude), run);
     }
     let run = half % 16;
     let magnitude = (code - NORMAL_SCAN_ESCAPE) / 32 + NORMAL_SCAN_ESCAPE_LEVEL_BASE[run as usize];
@@ -85,8 +85,9 @@ fn chroma_dc_level_run(code: u32) -> LevelRun
 {
     let half = half_of(code);
     if code < CHROMA_DC_ESCAPE {
-        let i = half as usize;
-        return LevelRun::Pair(level_of(code, CHROMA_DC_MAGNITUDES[i]), CHROMA_DC_RUNS[i]);
+        let magnitude = digit(CHROMA_DC_MAGNITUDES, half);
+        let run = digit(CHROMA_DC_RUNS, half);
+        return LevelRun::Pair(level_of(code, magnitude), run);
     }
     let run = half % 4;
     let magnitude = (code - CHROMA_DC_ESCAPE_CODE_BASE[run as usize]) / 8 + 3;
@@ -124,12 +125,26 @@ fn next_level(bits: &[u8], at: usize, book: ResidualBook) -> Step
     requires { ⌜ length (now bits) < 2 ^ 61 ⌝ }
     ensures { λ r. ⌜ r ≡ stepAnswer at (levelRun book (drop at (bitList (now (bits .entry))))) ⌝ }
 {
-    match read_universal_code(bits, at) {
-        CodeAnswer::Code(code, next) => match resolve_level_run(book, code) {
-            LevelRun::Pair(level, run) => Step::Level(level, run, next),
-            LevelRun::End => Step::End(next),
-        },
-        CodeAnswer::Refused(r) => Step::Refused(r),
+    let start = short_code(bits, at);
+    let before = start.before;
+    let head = start.head;
+    let mut code: u32 = 0;
+    let mut next = at;
+    if before < 8 {
+        code = head - 1;
+        next = at + before as usize + 1;
+    } else {
+        match read_universal_code(bits, at) {
+            CodeAnswer::Code(k, p) => {
+                code = k;
+                next = p;
+            }
+            CodeAnswer::Refused(r) => return Step::Refused(r),
+        }
+    }
+    match resolve_level_run(book, code) {
+        LevelRun::Pair(level, run) => Step::Level(level, run, next),
+        LevelRun::End => Step::End(next),
     }
 }
 

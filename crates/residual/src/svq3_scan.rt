@@ -4,9 +4,11 @@ ghost use Prim.Native.Nat.{_<_};
 ghost use lib.ListN.{getD};
 ghost use Rattle.residual.specs.Book.{positions};
 ghost use Rattle.residual.specs.Scan.{scan};
+use crate::digits::digit;
 use crate::svq3_coeff::ResidualBook;
 
-const NORMAL_ZIGZAG_4X4_SCAN: [usize; 16] = [0, 1, 4, 8, 5, 2, 3, 6, 9, 12, 13, 10, 7, 11, 14, 15];
+// By position, a digit each.
+const NORMAL_ZIGZAG_4X4_SCAN: u64 = 0xfeb7_adc9_6325_8410;
 
 const FULL_4X4_LEN: u32 = 16;
 
@@ -28,7 +30,7 @@ pub fn place_of(book: ResidualBook, position: u32) -> usize
     ensures { λ r. ⌜ r ≡ getD (scan book) position 0 ⌝ }
 {
     match book {
-        ResidualBook::NormalScan => NORMAL_ZIGZAG_4X4_SCAN[position as usize],
+        ResidualBook::NormalScan => digit(NORMAL_ZIGZAG_4X4_SCAN, position) as usize,
         ResidualBook::ChromaDc => position as usize,
     }
 }

@@ -1,19 +1,26 @@
 -- `residual::svq3_coeff::chroma_dc_level_run`: below the escape by the tables, from it on by the escape's formula.
+use mathlib.Core.Path.{ap, _∙_}
+use Prim.Native.Nat.{_<_}
+use native.Mathlib.Omega.{arith}
 use borrow.Author.Needs.{needs}
-use Rattle.residual.specs.Book.{magnitudes, runs, escapeMagnitude, chromaBase}
+use Rattle.residual.specs.Book.{magnitudes, runs, levelOf, escapeMagnitude, chromaBase}
 use Rattle.residual.specs.declared.svq3_coeff.ResidualBook.the-variants.{ChromaDc}
-use Rattle.residual.proofs.Entries.{base-range, entry-fits, entry-said, escape-said}
+use Rattle.residual.proofs.Entries.{base-range, entry-said, escape-said}
+use Rattle.residual.proofs.Table.{digits}
 use Rattle.residual.proofs.svq3_coeff.chroma_dc_level_run.Statement.{statement}
 use Rattle.residual.proofs.svq3_coeff.chroma_dc_level_run.Tie as tie
-
-level-of-requires : tie.Need-level-of-requires
-unfolding magnitudes
-level-of-requires c κs = entry-fits ChromaDc (c .before .before .args .code) (c .before .half-of .result) (c .before .half-of .ensures) (c .if1 .taken)
 
 returns : tie.Need-returns
 unfolding magnitudes runs
 returns c =
-    entry-said ChromaDc (c .before .before .before .args .code) (c .before .before .half-of .result) (c .before .before .half-of .ensures) (c .level-of .result) (c .level-of .ok) (c .before .if1 .taken) (c .level-of .ensures)
+    let d = c .before in
+    let h = d .before .before .before .half-of in
+    let k = d .before .before .before .before .args .code in
+    let l = d .before .before .if1 .taken in
+    let i : h .result < 16 = omega arith in
+    let m = d .before .digit .ensures ∙ digits 0x0000223411231210 (magnitudes ChromaDc) tt (h .result) i in
+    let r = d .digit2 .ensures ∙ digits 0x0000321032101000 (runs ChromaDc) tt (h .result) i in
+    rw r (entry-said ChromaDc k (h .result) (h .ensures) (c .level-of .result) (c .level-of .ok) l (c .level-of .ensures ∙ ap (levelOf k) m))
 
 sub-magnitude : tie.Need-sub-magnitude
 unfolding chromaBase
@@ -29,12 +36,9 @@ chroma-dc-level-run-spec =
     tie.close
     (tie.spec
     (λ c κs. search needs)
-    (λ c. search needs)
-    (λ c. search needs)
-    (λ c. search needs)
-    level-of-requires
-    (λ c. search needs)
-    (λ c. search needs)
+    (λ c κs. search needs)
+    (λ c κs. search needs)
+    (λ c κs. search needs)
     returns
     (λ c. search needs)
     (λ c. search needs)

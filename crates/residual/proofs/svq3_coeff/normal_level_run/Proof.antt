@@ -1,21 +1,26 @@
 -- `residual::svq3_coeff::normal_level_run`: below the escape by the tables, from it on by the escape's formula.
 use native.Mathlib.Omega.{arith}
+use mathlib.Core.Path.{ap, _∙_}
 use borrow.Author.Needs.{needs}
-use Prim.Native.Nat.{_%_}
-use Rattle.residual.specs.Book.{magnitudes, runs, escapeMagnitude, least}
+use Prim.Native.Nat.{_%_, _<_}
+use Rattle.residual.specs.Book.{magnitudes, runs, levelOf, escapeMagnitude, least}
 use Rattle.residual.specs.declared.svq3_coeff.ResidualBook.the-variants.{NormalScan}
-use Rattle.residual.proofs.Entries.{least-range, entry-fits, entry-said, escape-said}
+use Rattle.residual.proofs.Entries.{least-range, entry-said, escape-said}
+use Rattle.residual.proofs.Table.{digits}
 use Rattle.residual.proofs.svq3_coeff.normal_level_run.Statement.{statement}
 use Rattle.residual.proofs.svq3_coeff.normal_level_run.Tie as tie
-
-level-of-requires : tie.Need-level-of-requires
-unfolding magnitudes
-level-of-requires c κs = entry-fits NormalScan (c .before .before .args .code) (c .before .half-of .result) (c .before .half-of .ensures) (c .if1 .taken)
 
 returns : tie.Need-returns
 unfolding magnitudes runs
 returns c =
-    entry-said NormalScan (c .before .before .before .args .code) (c .before .before .half-of .result) (c .before .before .half-of .ensures) (c .level-of .result) (c .level-of .ok) (c .before .if1 .taken) (c .level-of .ensures)
+    let d = c .before in
+    let h = d .before .before .before .half-of in
+    let k = d .before .before .before .before .args .code in
+    let l = d .before .before .if1 .taken in
+    let i : h .result < 16 = omega arith in
+    let m = d .before .digit .ensures ∙ digits 0x4111122311121110 (magnitudes NormalScan) tt (h .result) i in
+    let r = d .digit2 .ensures ∙ digits 0x0987621054302100 (runs NormalScan) tt (h .result) i in
+    rw r (entry-said NormalScan k (h .result) (h .ensures) (c .level-of .result) (c .level-of .ok) l (c .level-of .ensures ∙ ap (levelOf k) m))
 
 add-magnitude : tie.Need-add-magnitude
 unfolding least
@@ -35,12 +40,9 @@ normal-level-run-spec =
     tie.close
     (tie.spec
     (λ c κs. search needs)
-    (λ c. search needs)
-    (λ c. search needs)
-    (λ c. search needs)
-    level-of-requires
-    (λ c. search needs)
-    (λ c. search needs)
+    (λ c κs. search needs)
+    (λ c κs. search needs)
+    (λ c κs. search needs)
     returns
     (λ c. search needs)
     (λ c. search needs)
