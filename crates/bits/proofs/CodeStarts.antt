@@ -10,7 +10,8 @@ use lib.ListN.{length, drop, length-drop}
 use Rattle.refusal.specs.Got.{Got, got, refused, after}
 use Rattle.refusal.proofs.Formats.{bounded}
 use Rattle.bits.specs.Bits.{odd, byteBits, bitList}
-use Rattle.bits.specs.Code.{codeFrom, code, bitValue, codeAnswer, Short, Starts}
+use Rattle.bits.specs.Code.{codeFrom, code, bitValue, codeAnswer}
+use Rattle.bits.specs.Starts.{Short, Starts}
 use Rattle.bits.specs.declared.svq3.CodeAnswer.the-variants.{Code}
 use Rattle.bits.proofs.Table.{both-left, both-right, every, at}
 use Rattle.bits.proofs.BitAt.{length-bits}

@@ -1,13 +1,12 @@
 -- The universal code: bit 1 is code 0; else data bit, marker, data bit, marker, until a marker is 1.
 -- Assumes nothing.
-use mathlib.Core.Path.{_≡_}
 use mathlib.Core.Bool.{Bool, true, false, cond}
-use mathlib.Core.List.{List, [], _∷_, _++_}
-use Prim.Native.Nat.{ℕ, zero, suc, _+_, _-_, _*_, _/_, _^_, _<_, _≤_}
+use mathlib.Core.List.{List, [], _∷_}
+use Prim.Native.Nat.{ℕ, zero, suc, _+_, _-_, _*_, _/_, _^_, _<_}
 use lib.Dec.{leb}
 use Rattle.refusal.specs.Got.{Got, got, refused, after}
 use Rattle.refusal.specs.declared.Refusal.the-variants.{Truncated, BadBitWidth}
-use Rattle.bits.specs.Bits.{odd, byteBits}
+use Rattle.bits.specs.Bits.{odd}
 use Rattle.bits.specs.declared.svq3.CodeAnswer.{CodeAnswer}
 use Rattle.bits.specs.declared.svq3.CodeAnswer.the-variants.{Code, Refused}
 
@@ -49,15 +48,3 @@ codeBits k = marked (placesIn 31 (k + 1)) (k + 1)
 abbrev pub codeAnswer : ℕ → Got ℕ → CodeAnswer
 codeAnswer at (got k n) = Code k (at + n)
 codeAnswer at (refused r) = Refused r
-
--- a code of at most seven bits at the head of s, by the number of bits before its marker 1 and a 1 followed by its data bits; 8 bits before say that none was found
-pub record Short (s : List Bool) (before head : ℕ) : Type 0 where
-  pub within : before ≤ 8
-  pub some : 0 < head
-  pub small : head < 32
-  pub ends : before < 8 → code s ≡ got (head - 1) (before + 1)
-
--- what a byte says of the code that starts there: a short code, or that the code goes on behind it
-pub record Starts (byte before head : ℕ) : Type 0 where
-  pub short : (rest : List Bool) → Short (byteBits byte ++ rest) before head
-  pub goes-on : before ≡ 8 → (rest : List Bool) → code (byteBits byte ++ rest) ≡ after 8 (codeFrom 27 head rest)

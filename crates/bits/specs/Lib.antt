@@ -1,3 +1,4 @@
 pub mod Bits
 pub mod Code
+pub mod Starts
 pub mod Signed

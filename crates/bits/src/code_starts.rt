@@ -1,6 +1,6 @@
 // The start of a universal code: what its first eight bits say.
 ghost use Prim.Native.Nat.{_<_};
-ghost use Rattle.bits.specs.Code.{Starts};
+ghost use Rattle.bits.specs.Starts.{Starts};
 
 // Of eight bits, the first a marker.
 pub struct CodeStart {

@@ -19,7 +19,7 @@ returns c =
     let a = c .before .before .before .args in
     let b = c .before .enum-told .given .1 in
     let h : a .position < 16 = subst (λ b. a .position < positions b) b (c .before .before .before .pre) in
-    rw b (c .digit .ensures ∙ digits 0xfeb7adc963258410 (scan NormalScan) tt (a .position) h)
+    rw b (c .digit .ensures ∙ digits _ (scan NormalScan) tt (a .position) h)
 
 returns-2 : tie.Need-returns-2
 returns-2 c = place-of-chroma (c .before .before .args .book) (c .before .before .args .position) (c .enum-told2 .given .1) (c .before .before .pre)

@@ -1,0 +1,21 @@
+-- What the eight bits at a place say of the code that starts there. Contracts inside the readers cite it; no answer of an entry rests on it.
+-- Assumes nothing.
+use mathlib.Core.Path.{_≡_}
+use mathlib.Core.Bool.{Bool}
+use mathlib.Core.List.{List, _++_}
+use Prim.Native.Nat.{ℕ, _+_, _-_, _<_, _≤_}
+use Rattle.refusal.specs.Got.{got, after}
+use Rattle.bits.specs.Bits.{byteBits}
+use Rattle.bits.specs.Code.{codeFrom, code}
+
+-- a code of at most seven bits at the head of s, by the number of bits before its marker 1 and a 1 followed by its data bits; 8 bits before say that none was found
+pub record Short (s : List Bool) (before head : ℕ) : Type 0 where
+  pub within : before ≤ 8
+  pub some : 0 < head
+  pub small : head < 32
+  pub ends : before < 8 → code s ≡ got (head - 1) (before + 1)
+
+-- what a byte says of the code that starts there: a short code, or that the code goes on behind it
+pub record Starts (byte before head : ℕ) : Type 0 where
+  pub short : (rest : List Bool) → Short (byteBits byte ++ rest) before head
+  pub goes-on : before ≡ 8 → (rest : List Bool) → code (byteBits byte ++ rest) ≡ after 8 (codeFrom 27 head rest)
