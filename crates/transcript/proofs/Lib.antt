@@ -2,3 +2,4 @@ pub mod Writing
 pub mod Reading
 pub mod Parsings
 pub mod Answers
+pub mod Short

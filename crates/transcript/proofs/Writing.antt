@@ -22,6 +22,8 @@ use Rattle.record.specs.Write.{signedNumbers, itemBytes, itemsBytes, restBytes,
 use Rattle.transcript.specs.Answers.{Written}
 use Rattle.record.proofs.Turns.{when-true, when-false}
 use Rattle.record.proofs.Sets.{sets-append, drop-of-take}
+use Rattle.record.proofs.ListKinds.{is-luma, is-dc, is-ac}
+use Rattle.record.proofs.Lists.{within}
 
 -- ---- one part after another
 pub written-on : {out mid left : List ℕ} {at p next : ℕ} {a b : List ℕ} → Written out at a p mid → Written mid p b next left → Written out at (a ++ b) next left
@@ -114,13 +116,37 @@ no-numbers xs first count i h =
 
 -- ---- lists
 module _ (pattern : ℕ) (levels : List ℤ) where
-  pub item-coded : (i start count place : ℕ) → itemCoded pattern i ≡ true → start ≡ itemStart i → count ≡ itemCount i → place ≡ itemPlace i
+  item-coded : (i start count place : ℕ) → itemCoded pattern i ≡ true → start ≡ itemStart i → count ≡ itemCount i → place ≡ itemPlace i
       → itemsBytes 1 i pattern levels ≡ signedNumbers (take (count - start) (drop (place + start) levels))
   unfolding itemsBytes writeLists itemBytes itemLevels
   item-coded i start count place t s n p =
       rw (s, n, p)
       (append-nil _ ∙ when-true (itemCoded pattern i) _ _ t
       ∙ ap signedNumbers (drop-of-take (itemStart i) (itemCount i) (drop (itemPlace i) levels) ∙ ap (take (itemCount i - itemStart i)) (drop-drop (itemStart i) (itemPlace i) levels)))
+
+  -- list i is the n numbers from `first` on
+  pub record Stands (i first n : ℕ) : Type 0 where
+    pub few : n ≤ 16
+    pub inside : first + n ≤ 392
+    pub bytes : itemsBytes 1 i pattern levels ≡ signedNumbers (take n (drop first levels))
+
+  module _ (i place : ℕ) (h : i < 26) (t : itemCoded pattern i ≡ true) (p : place ≡ itemPlace i) where
+    pub luma-stands : i < 16 → Stands i place 16
+    luma-stands k =
+        let a = is-luma i k in
+        let z : place + 0 ≡ place = omega arith in
+        record { few = omega arith; inside = omega (arith, within i h, a .count); bytes = rw z at (item-coded i 0 16 place t (sym (a .start)) (sym (a .count)) p) }
+
+    pub dc-stands : 16 ≤ i → i < 18 → Stands i place 4
+    dc-stands j k =
+        let a = is-dc i j k in
+        let z : place + 0 ≡ place = omega arith in
+        record { few = omega arith; inside = omega (arith, within i h, a .count); bytes = rw z at (item-coded i 0 4 place t (sym (a .start)) (sym (a .count)) p) }
+
+    pub ac-stands : 18 ≤ i → Stands i (place + 1) 15
+    ac-stands k =
+        let a = is-ac i k in
+        record { few = omega arith; inside = omega (arith, within i h, a .count); bytes = item-coded i 1 16 place t (sym (a .start)) (sym (a .count)) p }
 
   pub item-passed : (i : ℕ) → itemCoded pattern i ≡ false → itemsBytes 1 i pattern levels ≡ []
   unfolding itemsBytes writeLists

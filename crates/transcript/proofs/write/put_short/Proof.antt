@@ -1,0 +1,61 @@
+-- `transcript::write::put_short`: one byte a turn.
+use mathlib.Core.Path.{_≡_, refl, ap, _∙_}
+use Prim.Native.Nat.{_≤_, _+_, _-_}
+use native.Mathlib.Omega.{arith}
+use borrow.Author.Needs.{needs}
+use lib.ListN.{length, take, length-set}
+use lib.Seq.{sets}
+use Rattle.transcript.proofs.Short.{short-each, short-turn}
+use Rattle.transcript.proofs.write.put_short.Statement.{statement}
+use Rattle.transcript.proofs.write.put_short.Tie as tie
+use Rattle.transcript.proofs.write.put_short.Reads as reads
+use Rattle.transcript.proofs.write.put_short.Lts as lts
+
+abbrev Inv-loop : tie.InvT-loop
+Inv-loop out₀ t at count i₀ out i = (i ≤ count) × (length out ≡ length out₀) × (out ≡ sets out₀ at (take i t))
+
+abbrev μ-loop : tie.MeasureT-loop
+μ-loop out₀ t at count i₀ out i = count - i
+
+loop-holds : tie.Need-loop-holds Inv-loop μ-loop
+loop-holds c = (omega arith, refl, refl)
+
+cast-out : tie.Need-cast-out Inv-loop μ-loop
+cast-out c =
+    let a = c .before .before .before .args in
+    let l = c .before .before .loop in
+    let z : 0 + l .i ≡ l .i = omega arith in
+    let h = rw z at (short-each (a .t .now) 0 (a .count) (c .before .before .before .pre .1) (l .i) (c .before .loop-test .taken)) in
+    record { fits = omega arith }
+
+loop-again : tie.Need-loop-again Inv-loop μ-loop
+loop-again c =
+    let a = c .before .before .before .args in
+    let l = c .before .before .loop in
+    (omega arith, simp length-set (l .inv .1), rw (l .inv .2) (short-turn (a .out .now) (a .at) (a .t .now) (l .i) (omega arith)))
+
+same-length : tie.Need-same-length Inv-loop μ-loop
+same-length c = omega arith
+
+returns : tie.Need-returns Inv-loop μ-loop
+returns c =
+    let e : c .before .loop .i ≡ c .before .before .args .count = omega arith in
+    rw (← e) (c .before .loop .inv .2)
+
+pub put-short-spec : {M : Type 1} → statement M
+put-short-spec =
+    tie.close
+    (tie.spec
+    Inv-loop
+    μ-loop
+    loop-holds
+    (λ c. omega arith)
+    (λ c. omega arith)
+    cast-out
+    (λ c. omega arith)
+    (λ c. omega arith)
+    (λ c. omega arith)
+    (λ c. omega arith)
+    loop-again
+    same-length
+    returns)
