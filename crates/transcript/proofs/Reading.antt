@@ -1,6 +1,6 @@
 -- What the readers of a transcript's numbers hold on their way: a number with a limit, and signed numbers stored one after another.
 -- Assumes nothing.
-use mathlib.Core.Path.{_≡_, refl, sym, ap, _∙_}
+use mathlib.Core.Path.{_≡_, refl, sym, ap, subst, _∙_}
 use mathlib.Core.List.{List, [], _∷_, _++_}
 use mathlib.Core.Bool.{true, false}
 use Prim.Native.Nat.{ℕ, zero, suc, _+_, _-_, _≤_, _<_}
@@ -29,7 +29,7 @@ use Rattle.record.specs.Items.{itemCoded, itemStart, itemCount, itemPlace}
 use Rattle.record.specs.Parse.{field, readSigneds, parseItem, parseItems}
 use Rattle.record.specs.Answers.{Left}
 use Rattle.record.proofs.Turns.{when-true, when-false}
-use Rattle.record.proofs.ListKinds.{start-most, start-in}
+use Rattle.record.proofs.ListKinds.{start-most, start-in, is-luma, is-dc, is-ac}
 use Rattle.record.proofs.Fields.{signeds-format}
 use Rattle.record.proofs.Answers.{left-end, left-refused}
 use Rattle.record.proofs.Walks.{one-coded, one-passed}
@@ -139,8 +139,32 @@ module _ (pattern i at : ℕ) (ls : List ℤ) (s : List ℕ) where
           ap (λ (x : List ℤ). got x n) (placed ls (itemPlace i) (itemStart i) zs (start-most i) (omega (arith, l, start-in i)))
       go (refused r) e = refl
 
-  pub parse-stored : (start count place : ℕ) (answer : ListAnswer) (left : List ℤ) → itemCoded pattern i ≡ true → start ≡ itemStart i → count ≡ itemCount i → place ≡ itemPlace i
+  parse-stored : (start count place : ℕ) (answer : ListAnswer) (left : List ℤ) → itemCoded pattern i ≡ true → start ≡ itemStart i → count ≡ itemCount i → place ≡ itemPlace i
       → Left at (mapGot (sets (set ls place (pos 0)) (place + start)) (readSigneds (count - start) s)) answer left → Left at (parseItems 1 i pattern ls s) answer left
   unfolding parseItems
   parse-stored start count place answer left t b c p l =
       rw (one-coded parseItem pattern i ls s t ∙ sym parsed) (rw (b, c, p) at l)
+
+  -- a list with no place before its start
+  whole-stored : (count place : ℕ) (answer : ListAnswer) (left : List ℤ) → itemCoded pattern i ≡ true → itemStart i ≡ 0 → itemCount i ≡ count → place ≡ itemPlace i
+      → Left at (mapGot (sets ls place) (readSigneds count s)) answer left → Left at (parseItems 1 i pattern ls s) answer left
+  unfolding parseItems parseItem
+  whole-stored count place answer left t b c p l =
+      let z : count - 0 ≡ count = omega arith in
+      let e : parseItem i s ≡ readSigneds count s =
+      (λ j. mapGot (λ zs. zeros (b j) ++ zs) (readSigneds (c j - b j) s)) ∙ ap (λ (n : ℕ). mapGot (λ zs. zeros 0 ++ zs) (readSigneds n s)) z ∙ same (readSigneds count s) in
+      subst (λ (g : Got (List ℤ)). Left at g answer left) (sym (one-coded parseItem pattern i ls s t ∙ (λ j. mapGot (sets ls (sym p j)) (e j)))) l
+    where
+      same : (g : Got (List ℤ)) → mapGot (λ zs. zeros 0 ++ zs) g ≡ g
+      same (got zs n) = refl
+      same (refused r) = refl
+
+  module _ (place : ℕ) (answer : ListAnswer) (left : List ℤ) (t : itemCoded pattern i ≡ true) (p : place ≡ itemPlace i) where
+    pub luma-stored : i < 16 → Left at (mapGot (sets ls place) (readSigneds 16 s)) answer left → Left at (parseItems 1 i pattern ls s) answer left
+    luma-stored h = let a = is-luma i h in whole-stored 16 place answer left t (a .start) (a .count) p
+
+    pub dc-stored : 16 ≤ i → i < 18 → Left at (mapGot (sets ls place) (readSigneds 4 s)) answer left → Left at (parseItems 1 i pattern ls s) answer left
+    dc-stored h k = let a = is-dc i h k in whole-stored 4 place answer left t (a .start) (a .count) p
+
+    pub ac-stored : 18 ≤ i → Left at (mapGot (sets (set ls place (pos 0)) (place + 1)) (readSigneds 15 s)) answer left → Left at (parseItems 1 i pattern ls s) answer left
+    ac-stored h = let a = is-ac i h in parse-stored 1 16 place answer left t (sym (a .start)) (sym (a .count)) p

@@ -1,9 +1,10 @@
 // A record is read back from the bytes of a transcript.
 ghost use mathlib.Core.Path.{_≡_};
+ghost use mathlib.Core.Bool.{true};
 ghost use mathlib.Core.List.{List};
 ghost use Prim.Native.Nat.{_+_, _≤_, _<_};
 ghost use lib.IntN.{ℤ};
-ghost use lib.ListN.{length, drop};
+ghost use lib.ListN.{length, take, drop};
 ghost use lib.Seq.{sets};
 ghost use Rattle.refusal.specs.Got.{mapGot};
 ghost use Rattle.number.specs.Number.{numberAnswer};
@@ -12,15 +13,15 @@ ghost use Rattle.record.specs.Record.{noVectors, noLevels};
 ghost use Rattle.record.specs.Parse.{field, readSigneds, parseItems, parseResidual, parseMotion, parseRecord};
 ghost use Rattle.record.specs.Answers.{Left};
 ghost use Rattle.transcript.specs.Answers.{Parsing};
+ghost use Rattle.transcript.specs.Short.{allShort, shortAt, Received};
 use number::NumberAnswer;
 use number::SignedNumberAnswer;
 use number::read_number;
 use number::read_signed_number;
+use number::received_of;
 use record::Head;
 use record::items::item_coded;
-use record::items::item_count;
 use record::items::item_place;
-use record::items::item_start;
 use record::place_head;
 use record::skip_head;
 use record::with_motion;
@@ -77,6 +78,77 @@ fn read_signed_numbers(
     ListAnswer::End(p)
 }
 
+fn wide(x: u8) -> u32
+    ensures { λ r. ⌜ r ≡ x ⌝ }
+{
+    x as u32
+}
+
+// Whether each of `count` bytes is a number by itself.
+fn all_short(bytes: &[u8], at: usize, count: usize) -> bool
+    requires { ⌜ at + count ≤ length (now bytes) ⌝ }
+    ensures { λ r. ⌜ r ≡ allShort (now (bytes .entry)) at count ⌝ }
+{
+    let mut short = true;
+    let mut i = 0;
+    while i < count {
+        short = short & (bytes[at + i] < 128);
+        i += 1;
+    }
+    short
+}
+
+// Whether there are `count` bytes and each is a number by itself.
+pub fn short_at(bytes: &[u8], at: usize, count: usize) -> bool
+    ensures { λ r. ⌜ r ≡ shortAt (now (bytes .entry)) at count ⌝ }
+{
+    if bytes.len() < count {
+        return false;
+    }
+    if bytes.len() - count < at {
+        return false;
+    }
+    all_short(bytes, at, count)
+}
+
+// What `count` bytes stand for, each by itself: the first of sixteen.
+fn take_received(bytes: &[u8], at: usize, count: usize) -> [i32; 16]
+    requires { ⌜ (count ≤ 16) × (at + count ≤ length (now bytes)) ⌝ }
+    ensures { λ r. ⌜ Received (now (bytes .entry)) at count r ⌝ }
+{
+    let mut t = [0i32; 16];
+    let mut i = 0;
+    while i < count {
+        t[i] = received_of(wide(bytes[at + i]));
+        i += 1;
+    }
+    t
+}
+
+fn store_received(out: &mut [i32], t: &[i32; 16], first: usize, count: usize)
+    requires { ⌜ (count ≤ 16) × (length (now t) ≡ 16) × (first + count ≤ length (now out)) ⌝ }
+    ensures { λ _. ⌜ now (out .exit) ≡ sets (now (out .entry)) first (take count (now (t .entry))) ⌝ }
+{
+    let mut i = 0;
+    while i < count {
+        out[first + i] = t[i];
+        i += 1;
+    }
+}
+
+// `count` signed numbers, most of them short.
+fn read_list(out: &mut [i32], bytes: &[u8], at: usize, first: usize, count: usize) -> ListAnswer
+    requires { ⌜ (count ≤ 16) × (first + count ≤ length (now out)) ⌝ }
+    ensures { λ r. ⌜ Left at (mapGot (sets (now (out .entry)) first) (readSigneds count (drop at (now (bytes .entry))))) r (now (out .exit)) ⌝ }
+{
+    if short_at(bytes, at, count) {
+        let t = take_received(bytes, at, count);
+        store_received(out, &t, first, count);
+        return ListAnswer::End(at + count);
+    }
+    read_signed_numbers(out, bytes, at, first, count)
+}
+
 // List i, where it is coded.
 fn parse_item(levels: &mut [i32], bytes: &[u8], at: usize, pattern: u8, i: usize) -> ListAnswer
     requires { ⌜ (i < 26) × (length (now levels) ≡ 392) ⌝ }
@@ -85,12 +157,16 @@ fn parse_item(levels: &mut [i32], bytes: &[u8], at: usize, pattern: u8, i: usize
     if !item_coded(pattern, i) {
         return ListAnswer::End(at);
     }
-    let start = item_start(i);
-    let count = item_count(i);
     let place = item_place(i);
+    if i < 16 {
+        return read_list(levels, bytes, at, place, 16);
+    }
+    if i < 18 {
+        return read_list(levels, bytes, at, place, 4);
+    }
     // an AC list's first number belongs to the place behind this one
     levels[place] = 0;
-    read_signed_numbers(levels, bytes, at, place + start, count - start)
+    read_list(levels, bytes, at, place + 1, 15)
 }
 
 fn parse_items(levels: &mut [i32], bytes: &[u8], at: usize, pattern: u8) -> ListAnswer

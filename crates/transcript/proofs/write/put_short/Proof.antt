@@ -5,7 +5,7 @@ use native.Mathlib.Omega.{arith}
 use borrow.Author.Needs.{needs}
 use lib.ListN.{length, take, length-set}
 use lib.Seq.{sets}
-use Rattle.transcript.proofs.Short.{short-each, short-turn}
+use Rattle.transcript.proofs.Short.{short-each, stored-turn}
 use Rattle.transcript.proofs.write.put_short.Statement.{statement}
 use Rattle.transcript.proofs.write.put_short.Tie as tie
 use Rattle.transcript.proofs.write.put_short.Reads as reads
@@ -32,7 +32,7 @@ loop-again : tie.Need-loop-again Inv-loop μ-loop
 loop-again c =
     let a = c .before .before .before .args in
     let l = c .before .before .loop in
-    (omega arith, simp length-set (l .inv .1), rw (l .inv .2) (short-turn (a .out .now) (a .at) (a .t .now) (l .i) (omega arith)))
+    (omega arith, simp length-set (l .inv .1), rw (l .inv .2) (stored-turn 0 (a .out .now) (a .at) (a .t .now) (l .i) (omega arith)))
 
 same-length : tie.Need-same-length Inv-loop μ-loop
 same-length c = omega arith
