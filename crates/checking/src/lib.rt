@@ -6,8 +6,8 @@ ghost use Rattle.checking.specs.Records.{records};
 ghost use Rattle.checking.specs.Check.{checkAnswer, checked};
 use questions::grid_right;
 use refusal::Refusal;
-use transcript::parse::ParseAnswer;
-use transcript::parse::parse_record;
+use transcript::pass::PassAnswer;
+use transcript::pass::pass_record;
 
 pub enum CheckAnswer {
     // the number of records
@@ -20,18 +20,15 @@ pub fn check_records(bytes: &[u8], cols: u32, rows: u32) -> CheckAnswer
     requires { ⌜ gridRight cols rows ≡ true ⌝ }
     ensures { λ r. ⌜ r ≡ checkAnswer (records cols rows (now (bytes .entry))) ⌝ }
 {
-    // each record is read into these and forgotten
-    let mut vectors = [0i32; 32];
-    let mut levels = [0i32; 392];
     let mut at = 0;
     let mut count: usize = 0;
     while at < bytes.len() {
-        match parse_record(&mut vectors, &mut levels, bytes, at, cols, rows) {
-            ParseAnswer::Parsed(_, next) => {
+        match pass_record(bytes, at, cols, rows) {
+            PassAnswer::Passed(next) => {
                 at = next;
                 count += 1;
             }
-            ParseAnswer::Refused(why) => return CheckAnswer::Refused(why),
+            PassAnswer::Refused(why) => return CheckAnswer::Refused(why),
         }
     }
     CheckAnswer::Records(count)

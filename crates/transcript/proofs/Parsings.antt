@@ -87,10 +87,10 @@ module _ (at : ℕ) (g : Got (List ℤ)) (h : Head) (vs left : List ℤ) where
       record { answers = ap (parseAnswer at) (sym whole); leaves = λ o n f. never (sym whole ∙ f) }
 
 -- ---- pattern, quantiser, levels
-abbrev behindQuantiser : Head → List ℤ → ℕ → ℕ → List ℕ → Got Record
+abbrev pub behindQuantiser : Head → List ℤ → ℕ → ℕ → List ℕ → Got Record
 behindQuantiser h vs pattern quantiser s = mapGot (recordOf (withResidual h pattern quantiser) vs) (parseItems 26 0 pattern noLevels s)
 
-abbrev behindPattern : Head → List ℤ → ℕ → List ℕ → Got Record
+abbrev pub behindPattern : Head → List ℤ → ℕ → List ℕ → Got Record
 behindPattern h vs pattern s = andThen (field 31 s) s (behindQuantiser h vs pattern)
 
 module _ (h : Head) (s : List ℕ) (at : ℕ) (vs left : List ℤ) where
@@ -136,13 +136,13 @@ stored-refused : (f : List ℤ → List ℤ) (g : Got (List ℤ)) (r : Refusal) 
 stored-refused f (got zs n) r e = absurd (let z : _≡_ {A = ℕ} 0 1 = cc in omega arith)
 stored-refused f (refused q) r e = ap refused (cc)
 
-abbrev behindVectors : Head → ℕ → ℕ → List ℤ → List ℕ → Got Record
+abbrev pub behindVectors : Head → ℕ → ℕ → List ℤ → List ℕ → Got Record
 behindVectors h precision clipped vectors s = parseResidual (withMotion h precision clipped) (sets noVectors 0 vectors) s
 
-abbrev behindClipped : Head → ℕ → ℕ → List ℕ → Got Record
+abbrev pub behindClipped : Head → ℕ → ℕ → List ℕ → Got Record
 behindClipped h precision clipped s = andThen (readSigneds (2 * numMotionVectors (h .mode)) s) s (behindVectors h precision clipped)
 
-abbrev behindPrecision : Head → ℕ → List ℕ → Got Record
+abbrev pub behindPrecision : Head → ℕ → List ℕ → Got Record
 behindPrecision h precision s = andThen (field (2 * numMotionVectors (h .mode)) s) s (behindClipped h precision)
 
 module _ (h : Head) (s : List ℕ) (at : ℕ) (vs ls : List ℤ) where
@@ -176,80 +176,3 @@ module _ (h : Head) (s : List ℕ) (at : ℕ) (vs ls : List ℤ) where
           let w : vs ≡ sets noVectors 0 (u .numbers) = u .leaves ∙ ap (λ (x : List ℤ). sets x 0 (u .numbers)) zero in
           let b : Parsing next (behindVectors h precision clipped (u .numbers) (drop next s)) whole vs ls = rw (← w) (rw j at (k vs)) in
           with-clipped whole (on q s (readSigneds (2 * numMotionVectors (h .mode)) (drop q s)) (behindVectors h precision clipped) (u .numbers) (u .taken) next whole vs ls (ap (λ (m : ℕ). readSigneds (2 * m) (drop q s)) (sym i) ∙ u .is) (u .moved) b)
-
--- ---- column, row, mode, and what follows
-module _ (cols rows : ℕ) where
-  abbrev pub judge : ℕ → ℕ → ℕ → Bool
-  judge column row mode = ltb column cols && ltb row rows && leb mode 7
-
-  abbrev unlessSkip : ℕ → ℕ → ℕ → List ℕ → Got Record
-  unlessSkip column row mode s = if eqb mode 0 then got (skipRecord column row) 0 else parseMotion (placeHead column row mode) s
-
-  abbrev behindMode : ℕ → ℕ → ℕ → List ℕ → Got Record
-  behindMode column row mode s = if judge column row mode then unlessSkip column row mode s else refused FieldRange
-
-  abbrev behindRow : ℕ → ℕ → List ℕ → Got Record
-  behindRow column row s = andThen (readNumber s) s (behindMode column row)
-
-  abbrev behindColumn : ℕ → List ℕ → Got Record
-  behindColumn column s = andThen (readNumber s) s (behindRow column)
-
-  pub judged-mode : (column row mode : ℕ) (o : Head) → judge column row mode ≡ true → o ≡ placeHead column row mode → o .mode ≤ 7
-  judged-mode column row mode o t i = rw i (leb-true mode 7 (all-three (ltb column cols) (ltb row rows) (leb mode 7) t .2))
-
--- what is no number is refused as 14
-no-number : (at : ℕ) (s : List ℕ) (k : ℕ → List ℕ → Got Record) (r : Refusal) (vs ls : List ℤ) → number.Refused r ≡ numberAnswer at (readNumber (drop at s))
-    → Parsing at (andThen (readNumber (drop at s)) (drop at s) k) (Refused NumberForm) vs ls
-no-number at s k r vs ls e =
-    let f = number-refused at (readNumber (drop at s)) r e in
-    off at s (readNumber (drop at s)) k NumberForm vs ls (f ∙ ap refused (refused-form (drop at s) r f))
-
-module _ (cols rows : ℕ) (s : List ℕ) (at : ℕ) (vs ls : List ℤ) where
-  abbrev Whole : ParseAnswer → Type 0
-  Whole answer = Parsing at (parseRecord cols rows (drop at s)) answer vs ls
-
-  pub no-column : (r : Refusal) → number.Refused r ≡ numberAnswer at (readNumber (drop at s)) → Parsing at (parseRecord cols rows (drop at s)) (Refused NumberForm) vs ls
-  unfolding parseRecord
-  no-column r e = no-number at s (behindColumn cols rows) r vs ls e
-
-  module _ (column p : ℕ) (e : number.Number column p ≡ numberAnswer at (readNumber (drop at s))) where
-    with-column : (answer : ParseAnswer) → Parsing p (behindColumn cols rows column (drop p s)) answer vs ls → Whole answer
-    unfolding parseRecord
-    with-column answer k = number-on at s (readNumber (drop at s)) (behindColumn cols rows) column p answer vs ls e k
-
-    pub no-row : (r : Refusal) → number.Refused r ≡ numberAnswer p (readNumber (drop p s)) → Whole (Refused NumberForm)
-    no-row r f = with-column (Refused NumberForm) (no-number p s (behindRow cols rows column) r vs ls f)
-
-    module _ (row q : ℕ) (f : number.Number row q ≡ numberAnswer p (readNumber (drop p s))) where
-      with-row : (answer : ParseAnswer) → Parsing q (behindRow cols rows column row (drop q s)) answer vs ls → Whole answer
-      with-row answer k = with-column answer (number-on p s (readNumber (drop p s)) (behindRow cols rows column) row q answer vs ls f k)
-
-      pub no-mode : (r : Refusal) → number.Refused r ≡ numberAnswer q (readNumber (drop q s)) → Whole (Refused NumberForm)
-      no-mode r g = with-row (Refused NumberForm) (no-number q s (behindMode cols rows column row) r vs ls g)
-
-      module _ (mode next : ℕ) (g : number.Number mode next ≡ numberAnswer q (readNumber (drop q s))) where
-        with-mode : (answer : ParseAnswer) → Parsing next (behindMode cols rows column row mode (drop next s)) answer vs ls → Whole answer
-        with-mode answer k = with-row answer (number-on q s (readNumber (drop q s)) (behindMode cols rows column row) mode next answer vs ls g k)
-
-        pub outside : judge cols rows column row mode ≡ false → Whole (Refused FieldRange)
-        outside t =
-            with-mode (Refused FieldRange)
-            (rw (when-false (judge cols rows column row mode) (unlessSkip cols rows column row mode (drop next s)) (refused FieldRange) t) (record { answers = refl; leaves = λ r n x. never x }))
-
-        inside : judge cols rows column row mode ≡ true → (answer : ParseAnswer) → Parsing next (unlessSkip cols rows column row mode (drop next s)) answer vs ls → Whole answer
-        inside t answer k = with-mode answer (rw (when-true (judge cols rows column row mode) (unlessSkip cols rows column row mode (drop next s)) (refused FieldRange) t) k)
-
-        pub skip : judge cols rows column row mode ≡ true → mode ≡ 0 → (o : Head) → o ≡ skipHead column row → vs ≡ noVectors → ls ≡ noLevels → Whole (Parsed o next)
-        unfolding skipRecord
-        skip t z o i v l =
-            inside t (Parsed o next)
-            (rw (when-true (eqb mode 0) (got (skipRecord column row) 0) (parseMotion (placeHead column row mode) (drop next s)) (eq-eqb mode 0 z))
-            (record {
-              answers = ap (λ (x : Head). Parsed x next) i ∙ ap (Parsed (skipHead column row)) (sym (add-zero next));
-              leaves = λ r n x. (v ∙ ap (λ (w : Record). w .vectors) (got-value x), l ∙ ap (λ (w : Record). w .levels) (got-value x));
-            }))
-
-        pub motion : judge cols rows column row mode ≡ true → (mode ≡ 0 → ⊥) → (o : Head) (answer : ParseAnswer) → o ≡ placeHead column row mode → Parsing next (parseMotion o (drop next s)) answer vs ls → Whole answer
-        motion t z o answer i k =
-            inside t answer
-            (rw (when-false (eqb mode 0) (got (skipRecord column row) 0) (parseMotion (placeHead column row mode) (drop next s)) (ne-eqb mode 0 z)) (rw i at k))

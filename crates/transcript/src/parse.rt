@@ -12,7 +12,8 @@ ghost use Rattle.residual.specs.Levels.{zeros};
 ghost use Rattle.record.specs.Record.{noVectors, noLevels};
 ghost use Rattle.record.specs.Parse.{field, readSigneds, parseItems, parseResidual, parseMotion, parseRecord};
 ghost use Rattle.record.specs.Answers.{Left};
-ghost use Rattle.transcript.specs.Answers.{Parsing};
+ghost use Rattle.transcript.specs.Answers.{Parsing, placeAnswer};
+ghost use Rattle.transcript.specs.Place.{parsePlace};
 ghost use Rattle.transcript.specs.Short.{allShort, shortAt, Received};
 use number::NumberAnswer;
 use number::SignedNumberAnswer;
@@ -23,7 +24,6 @@ use record::Head;
 use record::items::item_coded;
 use record::items::item_place;
 use record::place_head;
-use record::skip_head;
 use record::with_motion;
 use record::with_residual;
 use refusal::Refusal;
@@ -37,7 +37,7 @@ pub enum ParseAnswer {
 }
 
 // A number that is at most `most`.
-fn read_field(bytes: &[u8], at: usize, most: u32) -> NumberAnswer
+pub fn read_field(bytes: &[u8], at: usize, most: u32) -> NumberAnswer
     ensures { λ r. ⌜ r ≡ numberAnswer at (field most (drop at (now (bytes .entry)))) ⌝ }
 {
     match read_number(bytes, at) {
@@ -253,6 +253,41 @@ fn clear(out: &mut [i32])
     }
 }
 
+// Column, row and mode of the record at a place, which may lie anywhere, also past the end.
+pub fn parse_place(bytes: &[u8], at: usize, cols: u32, rows: u32) -> ParseAnswer
+    ensures { λ r. ⌜ r ≡ placeAnswer at (parsePlace cols rows (drop at (now (bytes .entry)))) ⌝ }
+{
+    let NumberAnswer::Number(column, p) = read_number(bytes, at) else {
+        return ParseAnswer::Refused(Refusal::NumberForm);
+    };
+    let NumberAnswer::Number(row, q) = read_number(bytes, p) else {
+        return ParseAnswer::Refused(Refusal::NumberForm);
+    };
+    let NumberAnswer::Number(mode, next) = read_number(bytes, q) else {
+        return ParseAnswer::Refused(Refusal::NumberForm);
+    };
+    if (column < cols) & (row < rows) & (mode <= 7) {
+        return ParseAnswer::Parsed(place_head(column, row, mode), next);
+    }
+    ParseAnswer::Refused(Refusal::FieldRange)
+}
+
+// What follows the mode of a record that is no skip. What the two slices held does not matter.
+pub fn parse_coded(
+    vectors: &mut [i32],
+    levels: &mut [i32],
+    bytes: &[u8],
+    at: usize,
+    head: Head,
+) -> ParseAnswer
+    requires { ⌜ (length (now vectors) ≡ 32) × (length (now levels) ≡ 392) × (head .mode ≤ 7) ⌝ }
+    ensures { λ r. ⌜ Parsing at (parseMotion head (drop at (now (bytes .entry)))) r (now (vectors .exit)) (now (levels .exit)) ⌝ }
+{
+    clear(vectors);
+    clear(levels);
+    parse_motion(vectors, levels, bytes, at, head)
+}
+
 // The record at a place, which may lie anywhere, also past the end. What the two slices held does not matter.
 pub fn parse_record(
     vectors: &mut [i32],
@@ -265,22 +300,15 @@ pub fn parse_record(
     requires { ⌜ (length (now vectors) ≡ 32) × (length (now levels) ≡ 392) ⌝ }
     ensures { λ r. ⌜ Parsing at (parseRecord cols rows (drop at (now (bytes .entry)))) r (now (vectors .exit)) (now (levels .exit)) ⌝ }
 {
-    clear(vectors);
-    clear(levels);
-    let NumberAnswer::Number(column, p) = read_number(bytes, at) else {
-        return ParseAnswer::Refused(Refusal::NumberForm);
-    };
-    let NumberAnswer::Number(row, q) = read_number(bytes, p) else {
-        return ParseAnswer::Refused(Refusal::NumberForm);
-    };
-    let NumberAnswer::Number(mode, next) = read_number(bytes, q) else {
-        return ParseAnswer::Refused(Refusal::NumberForm);
-    };
-    if (column < cols) & (row < rows) & (mode <= 7) {
-        if mode == 0 {
-            return ParseAnswer::Parsed(skip_head(column, row), next);
+    match parse_place(bytes, at, cols, rows) {
+        ParseAnswer::Parsed(head, next) => {
+            if head.mode == 0 {
+                clear(vectors);
+                clear(levels);
+                return ParseAnswer::Parsed(head, next);
+            }
+            parse_coded(vectors, levels, bytes, next, head)
         }
-        return parse_motion(vectors, levels, bytes, next, place_head(column, row, mode));
+        ParseAnswer::Refused(r) => ParseAnswer::Refused(r),
     }
-    ParseAnswer::Refused(Refusal::FieldRange)
 }

@@ -1,11 +1,13 @@
 -- `checking::check_records`: the records counted so far and those still to be read are all of them.
-use mathlib.Core.Path.{_≡_, refl, sym, _∙_}
-use Prim.Native.Nat.{_-_}
+use mathlib.Core.Path.{_≡_, sym, _∙_}
+use Prim.Native.Nat.{ℕ, _+_, _-_}
 use native.Mathlib.Omega.{arith}
 use lib.ListN.{length, drop}
+use Rattle.refusal.specs.Got.{got}
 use Rattle.lists.proofs.Laws.{Counting, counting, count-end, count-stop, count-on}
+use Rattle.record.specs.Record.{Record}
 use Rattle.record.specs.Parse.{parseRecord}
-use Rattle.transcript.proofs.Answers.{ParsedBy, parsed, parse-refused}
+use Rattle.transcript.proofs.Passes.{passed, not-passed}
 use Rattle.checking.specs.Records.{records}
 use Rattle.checking.specs.Check.{checkAnswer}
 use Rattle.checking.specs.declared.CheckAnswer.the-variants.{Records, Refused}
@@ -15,44 +17,35 @@ use Rattle.checking.proofs.check_records.Statement.{statement}
 use Rattle.checking.proofs.check_records.Tie as tie
 
 abbrev Inv-loop : tie.InvT-loop
-Inv-loop bytes cols rows vectors₀ levels₀ at₀ count₀ vectors levels at count = Counting (parseRecord cols rows) Records Refused (checkAnswer (records cols rows bytes)) bytes at count × (length vectors ≡ 32) × (length levels ≡ 392)
+Inv-loop bytes cols rows at₀ count₀ at count = Counting (parseRecord cols rows) Records Refused (checkAnswer (records cols rows bytes)) bytes at count
 
 abbrev μ-loop : tie.MeasureT-loop
-μ-loop bytes cols rows vectors₀ levels₀ at₀ count₀ vectors levels at count = length bytes - at
+μ-loop bytes cols rows at₀ count₀ at count = length bytes - at
 
 -- what was read, of the definition
-found : (c : tie.After-known-told Inv-loop μ-loop) → let a = c .before .before .before .before .before .before .before .before .before .before .before .args in
-    ParsedBy (c .before .before .before .before .before .before .before .before .before .loop .at) (parseRecord (a .cols) (a .rows) (drop (c .before .before .before .before .before .before .before .before .before .loop .at) (a .bytes .now))) (c .before .next .given .0 .0) (c .before .next .given .0 .1 .0) (c .before .before .before .before .before .parse-record .last .0) (c .before .before .before .before .before .parse-record .last .1 .0)
-found c =
-    let a = c .before .before .before .before .before .before .before .before .before .before .before .args in
-    parsed (c .before .before .before .before .before .before .before .before .before .loop .at) (parseRecord (a .cols) (a .rows) (drop (c .before .before .before .before .before .before .before .before .before .loop .at) (a .bytes .now))) _ _ _ _ (rw (c .before .next .given .1) at (c .before .before .before .before .before .parse-record .ensures))
+found : (c : tie.After-known-told Inv-loop μ-loop) → let a = c .before .before .before .before .before .before .before .args in
+    (r : Record) × (n : ℕ) × (parseRecord (a .cols) (a .rows) (drop (c .before .before .before .before .before .loop .at) (a .bytes .now)) ≡ got r n) × (c .before .next .given .0 .0 ≡ c .before .before .before .before .before .loop .at + n)
+found c = passed (c .before .before .before .before .before .loop .at) _ _ (sym (c .before .next .given .1) ∙ c .before .before .before .pass-record .ensures)
 
 loop-less : tie.Need-loop-less Inv-loop μ-loop
 loop-less c =
-    let s = c .before .before .before .before .before .before .before .before .before .before .before in
-    let a = s .args in
-    let t = grid-takes (a .cols) (a .rows) (s .pre) .takes (drop (c .before .before .before .before .before .before .before .before .before .loop .at) (a .bytes .now)) _ (found c .taken) (found c .is) in
-    let h = c .before .before .before .before .before .before .before .before .loop-test .taken in
-    omega (arith, found c .moved)
+    let s = c .before .before .before .before .before .before .before in
+    let t = grid-takes (s .args .cols) (s .args .rows) (s .pre) .takes (drop (c .before .before .before .before .before .loop .at) (s .args .bytes .now)) _ (found c .1) (found c .2) in
+    let h = c .before .before .before .before .loop-test .taken in
+    omega (arith, found c .3)
 
 loop-again : tie.Need-loop-again Inv-loop μ-loop
 loop-again c =
-    let s = c .before .before .before .before .before .before .before .before .before .before .before in
-    let k : length (c .before .before .before .before .before .parse-record .last .0) ≡ length (c .before .before .before .before .before .before .before .before .before .loop .vectors) = c .before .before .before .before .before .parse-record .kept .0 in
-    let m : length (c .before .before .before .before .before .parse-record .last .1 .0) ≡ length (c .before .before .before .before .before .before .before .before .before .loop .levels) = c .before .before .before .before .before .parse-record .kept .1 .0 in (
-      count-on (c .before .before .before .before .before .before .before .before .before .loop .inv .0) (grid-takes (s .args .cols) (s .args .rows) (s .pre)) (c .before .before .before .before .before .before .before .before .loop-test .taken) _ _ _ (found c .is) (found c .moved),
-      k ∙ c .before .before .before .before .before .before .before .before .before .loop .inv .1,
-      m ∙ c .before .before .before .before .before .before .before .before .before .loop .inv .2,
-    )
+    let s = c .before .before .before .before .before .before .before in
+    count-on (c .before .before .before .before .before .loop .inv) (grid-takes (s .args .cols) (s .args .rows) (s .pre)) (c .before .before .before .before .loop-test .taken) _ _ _ (found c .2) (found c .3)
 
 returns : tie.Need-returns Inv-loop μ-loop
 returns c =
-    let s = c .before .before .before .before .before .before .before .before .before .before .before in
-    let a = s .args in
-    sym (count-stop (c .before .before .before .before .before .before .before .before .before .loop .inv .0) (grid-takes (a .cols) (a .rows) (s .pre)) (c .before .before .before .before .before .before .before .before .loop-test .taken) _ (parse-refused _ (parseRecord (a .cols) (a .rows) (drop (c .before .before .before .before .before .before .before .before .before .loop .at) (a .bytes .now))) _ _ _ (rw (c .before .why .given .1) at (c .before .before .before .before .before .parse-record .ensures))))
+    let s = c .before .before .before .before .before .before .before in
+    sym (count-stop (c .before .before .before .before .before .loop .inv) (grid-takes (s .args .cols) (s .args .rows) (s .pre)) (c .before .before .before .before .loop-test .taken) _ (not-passed (c .before .before .before .before .before .loop .at) _ _ (sym (c .before .why .given .1) ∙ c .before .before .before .pass-record .ensures)))
 
 returns-2 : tie.Need-returns-2 Inv-loop μ-loop
-returns-2 c = sym (count-end (c .before .loop .inv .0) (c .loop-test .left))
+returns-2 c = sym (count-end (c .before .loop .inv) (c .loop-test .left))
 
 pub check-records-spec : {M : Type 1} → statement M
 check-records-spec =
@@ -60,12 +53,10 @@ check-records-spec =
     (tie.spec
     Inv-loop
     μ-loop
-    (λ c. (counting (records-tally _ _ (c .before .args .bytes .now)), refl, refl))
-    (λ c. sym (c .before .before .loop .inv .1))
-    (λ c. sym (c .before .before .before .loop .inv .2))
-    (λ c κs. (c .before .before .before .loop .inv .1, c .before .before .before .loop .inv .2))
+    (λ c. counting (records-tally _ _ (c .before .args .bytes .now)))
+    (λ c κs. tt)
     (λ c. search needs)
-    (λ c. omega (arith, c .before .before .before .before .before .before .before .before .before .loop .inv .0 .there, c .before .before .before .before .before .before .before .before .before .loop .inv .0 .few))
+    (λ c. omega (arith, c .before .before .before .before .before .loop .inv .there, c .before .before .before .before .before .loop .inv .few))
     loop-less
     loop-again
     (λ c. search needs)
