@@ -211,8 +211,8 @@ fn parse_residual(levels: &mut [i32], bytes: &[u8], at: usize, head: Head) -> Pa
     }
 }
 
-// Precision, clipped count, vectors, and what follows.
-fn parse_motion(
+// Precision, clipped count, vectors, and what follows, into slices of zeros.
+pub fn parse_motion(
     vectors: &mut [i32],
     levels: &mut [i32],
     bytes: &[u8],
@@ -273,7 +273,7 @@ pub fn parse_place(bytes: &[u8], at: usize, cols: u32, rows: u32) -> ParseAnswer
 }
 
 // What follows the mode of a record that is no skip. What the two slices held does not matter.
-pub fn parse_coded(
+fn parse_coded(
     vectors: &mut [i32],
     levels: &mut [i32],
     bytes: &[u8],
