@@ -1,6 +1,7 @@
 // Levels times the quantiser's entry, the transform of a block of 4 × 4, and the chroma DC. All saturates at i32.
 ghost use mathlib.Core.Path.{_≡_};
 ghost use Prim.Native.Nat.{_≤_, _<_, _+_};
+ghost use lib.IntN.{_+ℤ_, _-ℤ_};
 ghost use lib.ListN.{length};
 ghost use Rattle.transform.specs.Tables.{dequantCoeff, chromaQuantiserIndex, chromaCoeff};
 ghost use Rattle.transform.specs.Residual.{placed, scaled, rowsOf, rounded, residual};
@@ -211,14 +212,39 @@ fn halve(v: i64) -> i32
     ints::sat_i32(v / 2)
 }
 
+// The four sums, by the place of their block.
+fn top_left(a: i32, b: i32, c: i32, d: i32) -> i32
+    ensures { λ r. ⌜ r ≡ halved (a +ℤ b +ℤ c +ℤ d) ⌝ }
+{
+    halve((a as i64) + (b as i64) + (c as i64) + (d as i64))
+}
+
+fn top_right(a: i32, b: i32, c: i32, d: i32) -> i32
+    ensures { λ r. ⌜ r ≡ halved (a -ℤ b +ℤ c -ℤ d) ⌝ }
+{
+    halve((a as i64) - (b as i64) + (c as i64) - (d as i64))
+}
+
+fn bottom_left(a: i32, b: i32, c: i32, d: i32) -> i32
+    ensures { λ r. ⌜ r ≡ halved (a +ℤ b -ℤ c -ℤ d) ⌝ }
+{
+    halve((a as i64) + (b as i64) - (c as i64) - (d as i64))
+}
+
+fn bottom_right(a: i32, b: i32, c: i32, d: i32) -> i32
+    ensures { λ r. ⌜ r ≡ halved (a -ℤ b -ℤ c +ℤ d) ⌝ }
+{
+    halve((a as i64) - (b as i64) - (c as i64) + (d as i64))
+}
+
 pub fn chroma_dc_secondary_transform(a: i32, b: i32, c: i32, d: i32) -> [i32; 4]
     ensures { λ r. ⌜ r ≡ secondary a b c d ⌝ }
 {
     [
-        halve((a as i64) + (b as i64) + (c as i64) + (d as i64)),
-        halve((a as i64) - (b as i64) + (c as i64) - (d as i64)),
-        halve((a as i64) + (b as i64) - (c as i64) - (d as i64)),
-        halve((a as i64) - (b as i64) - (c as i64) + (d as i64)),
+        top_left(a, b, c, d),
+        top_right(a, b, c, d),
+        bottom_left(a, b, c, d),
+        bottom_right(a, b, c, d),
     ]
 }
 

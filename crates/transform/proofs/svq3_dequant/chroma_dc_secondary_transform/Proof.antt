@@ -1,9 +1,9 @@
--- Each sum fits 64 bits, and `halve` halves it.
+-- The four sums, one after the other.
 use mathlib.Core.List.{[], _∷_}
 use borrow.Author.Needs.{needs}
 use mir.Syntax.{w32}
 use lib.IntN.{_+ℤ_, _-ℤ_}
-use Rattle.ints.proofs.Fits.{signed, back, via}
+use Rattle.ints.proofs.Fits.{back, via}
 use Rattle.ints.proofs.Same.{reads}
 use Rattle.transform.specs.ChromaDc.{halved, secondary}
 use Rattle.transform.proofs.svq3_dequant.chroma_dc_secondary_transform.Statement.{statement}
@@ -18,46 +18,18 @@ returns c =
     let z = c1 .before .args in
     let record { a = a; b = b; c = c′; d = d } = c1 .before .fits in
     λ i.
-    back w32 (c1 .halve .ok) (via halved {y = z .a +ℤ z .b +ℤ z .c +ℤ z .d} (c1 .halve .ensures) (search reads fits 20000 depth 30)) i
-    ∷ back w32 (c2 .halve2 .ok) (via halved {y = z .a -ℤ z .b +ℤ z .c -ℤ z .d} (c2 .halve2 .ensures) (search reads fits 20000 depth 30)) i
-    ∷ back w32 (c3 .halve3 .ok) (via halved {y = z .a +ℤ z .b -ℤ z .c -ℤ z .d} (c3 .halve3 .ensures) (search reads fits 20000 depth 30)) i
-    ∷ back w32 (c .halve4 .ok) (via halved {y = z .a -ℤ z .b -ℤ z .c +ℤ z .d} (c .halve4 .ensures) (search reads fits 20000 depth 30)) i
+    back w32 (c1 .top-left .ok) (via halved {y = z .a +ℤ z .b +ℤ z .c +ℤ z .d} (c1 .top-left .ensures) (search reads fits 20000 depth 30)) i
+    ∷ back w32 (c2 .top-right .ok) (via halved {y = z .a -ℤ z .b +ℤ z .c -ℤ z .d} (c2 .top-right .ensures) (search reads fits 20000 depth 30)) i
+    ∷ back w32 (c3 .bottom-left .ok) (via halved {y = z .a +ℤ z .b -ℤ z .c -ℤ z .d} (c3 .bottom-left .ensures) (search reads fits 20000 depth 30)) i
+    ∷ back w32 (c .bottom-right .ok) (via halved {y = z .a -ℤ z .b -ℤ z .c +ℤ z .d} (c .bottom-right .ensures) (search reads fits 20000 depth 30)) i
     ∷ []
 
 pub chroma-dc-secondary-transform-spec : {M : Type 1} → statement M
 chroma-dc-secondary-transform-spec =
     tie.close
     (tie.spec
-    (λ c. search signed depth 20)
-    (λ c. search signed depth 20)
-    (λ c. search signed depth 20)
-    (λ c. search signed depth 20)
-    (λ c. search signed depth 20)
-    (λ c. search signed depth 20)
-    (λ c. search signed depth 20)
     (λ c κs. search needs)
-    (λ c. search signed depth 20)
-    (λ c. search signed depth 20)
-    (λ c. search signed depth 20)
-    (λ c. search signed depth 20)
-    (λ c. search signed depth 20)
-    (λ c. search signed depth 20)
-    (λ c. search signed depth 20)
     (λ c κs. search needs)
-    (λ c. search signed depth 20)
-    (λ c. search signed depth 20)
-    (λ c. search signed depth 20)
-    (λ c. search signed depth 20)
-    (λ c. search signed depth 20)
-    (λ c. search signed depth 20)
-    (λ c. search signed depth 20)
     (λ c κs. search needs)
-    (λ c. search signed depth 20)
-    (λ c. search signed depth 20)
-    (λ c. search signed depth 20)
-    (λ c. search signed depth 20)
-    (λ c. search signed depth 20)
-    (λ c. search signed depth 20)
-    (λ c. search signed depth 20)
     (λ c κs. search needs)
     returns)
