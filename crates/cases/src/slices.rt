@@ -1,5 +1,5 @@
 // Slices copied, compared and set, with nothing done outside them.
-ghost use Prim.Native.Nat.{_*_, _≤_, _<_};
+ghost use Prim.Native.Nat.{_≤_, _<_};
 
 // As much of n as `most` allows.
 pub fn within(n: usize, most: usize) -> usize
@@ -13,45 +13,30 @@ pub fn byte_of(from: &[u8], at: usize) -> u8 {
     if at < from.len() { from[at] } else { 0 }
 }
 
-pub fn signed_of(from: &[i32], at: usize) -> i32 {
-    if at < from.len() { from[at] } else { 0 }
-}
-
-pub fn put(to: &mut [u8], at: usize, value: u8) {
+fn put(to: &mut [u8], at: usize, value: u8) {
     if at < to.len() {
         to[at] = value;
     }
 }
 
-pub fn put_signed(to: &mut [i32], at: usize, value: i32) {
-    if at < to.len() {
-        to[at] = value;
-    }
-}
-
-pub fn copy(to: &mut [u8], from: &[u8]) {
+// The bytes from place `at` of `from` on, as many as `to` has.
+pub fn copy(to: &mut [u8], from: &[u8], at: usize)
+    requires { ⌜ at < 4294967296 ⌝ }
+{
     let mut i = 0;
     while i < to.len() {
-        to[i] = byte_of(from, i);
+        to[i] = byte_of(from, at + i);
         i += 1;
     }
 }
 
-pub fn copy_signed(to: &mut [i32], from: &[i32]) {
-    let mut i = 0;
-    while i < to.len() {
-        to[i] = signed_of(from, i);
-        i += 1;
-    }
-}
-
-pub fn same_signed(a: &[i32], b: &[i32]) -> bool {
-    if a.len() != b.len() {
-        return false;
-    }
+// Whether the bytes from place `at` of `from` on are those of `a`.
+pub fn same_at(a: &[u8], from: &[u8], at: usize) -> bool
+    requires { ⌜ at < 4294967296 ⌝ }
+{
     let mut i = 0;
     while i < a.len() {
-        if a[i] != b[i] {
+        if a[i] != byte_of(from, at + i) {
             return false;
         }
         i += 1;
@@ -61,7 +46,7 @@ pub fn same_signed(a: &[i32], b: &[i32]) -> bool {
 
 // The n bytes from place `first` of `from` on, to place `at` of `to` and on.
 pub fn put_bytes(to: &mut [u8], from: &[u8], first: usize, at: usize, n: usize)
-    requires { ⌜ (first < 4294967296) × (at < 8589934592) × (n < 65536) ⌝ }
+    requires { ⌜ (first < 4294967296) × (at < 1099511627776) × (n < 65536) ⌝ }
 {
     let mut i = 0;
     while i < n {

@@ -1,69 +1,45 @@
-// The state of a grid: planes, vectors and marks, as the list gives them.
+// The state of a grid in one array of 3,300 bytes, as the list gives it: luma from 0 on, Cb from 1,600,
+// Cr from 2,000, marks from 2,400, and from 2,500 the vectors, four bytes a component. A reference has the three planes alone.
 ghost use Prim.Native.Nat.{_≤_, _<_};
 use crate::head::fill;
 use crate::head::number_at;
-use crate::head::signed_at;
+use crate::head::short_at;
 use crate::slices::put_bytes;
-use crate::slices::put_signed;
 
-// The vector component at a byte place, 0 past the end.
-fn component(given: &[u8], at: usize) -> i32
-    requires { ⌜ at < 4294967296 ⌝ }
-{
-    if at + 4 <= given.len() {
-        signed_at(given, at)
-    } else {
-        0
+// The next n bytes, to place `at`: whether the part has room for them and all came.
+fn take_part(b: &mut [u8], at: usize, most: usize, n: usize) -> bool {
+    if n <= most {
+        if at <= b.len() {
+            return fill(&mut b[at..], n);
+        }
     }
-}
-
-// The next n vector components.
-pub fn take_vectors(mv: &mut [i32], n: usize) -> bool
-    requires { ⌜ n < 65536 ⌝ }
-{
-    let mut given = [0u8; 1024];
-    let whole = fill(&mut given, 4 * n);
-    let mut i = 0;
-    while i < n {
-        put_signed(mv, i, component(&given, 4 * i));
-        i += 1;
-    }
-    whole
+    false
 }
 
 // The planes of n macroblocks.
-pub fn take_planes(y: &mut [u8], cb: &mut [u8], cr: &mut [u8], n: usize) -> bool
+pub fn take_planes(b: &mut [u8], n: usize) -> bool
     requires { ⌜ n < 256 ⌝ }
 {
-    fill(y, 256 * n) & fill(cb, 64 * n) & fill(cr, 64 * n)
+    take_part(b, 0, 1600, 256 * n)
+        & take_part(b, 1600, 400, 64 * n)
+        & take_part(b, 2000, 400, 64 * n)
 }
 
 // The vectors and the marks of n macroblocks.
-pub fn take_cells(mv: &mut [i32], marks: &mut [u8], n: usize) -> bool
+pub fn take_cells(b: &mut [u8], n: usize) -> bool
     requires { ⌜ n < 256 ⌝ }
 {
-    take_vectors(mv, 32 * n) & fill(marks, 16 * n)
+    take_part(b, 2500, 800, 128 * n) & take_part(b, 2400, 100, 16 * n)
 }
 
 // Kind 1, a start, and kind 2, its vectors and marks anew.
-pub fn take_start(
-    y: &mut [u8],
-    cb: &mut [u8],
-    cr: &mut [u8],
-    mv: &mut [i32],
-    marks: &mut [u8],
-    ry: &mut [u8],
-    rcb: &mut [u8],
-    rcr: &mut [u8],
-    head: &[u8; 80],
-) -> bool {
+pub fn take_start(state: &mut [u8], reference: &mut [u8], head: &[u8; 80]) -> bool {
     let n = (number_at(head, 4) % 256) as usize;
     if head[0] == 1 {
-        let reference = take_planes(ry, rcb, rcr, n);
-        let picture = take_planes(y, cb, cr, n);
-        return take_cells(mv, marks, n) & reference & picture;
+        let planes = take_planes(reference, n) & take_planes(state, n);
+        return take_cells(state, n) & planes;
     }
-    take_cells(mv, marks, n)
+    take_cells(state, n)
 }
 
 // An element's place among rows of `stride` elements.
@@ -74,42 +50,87 @@ fn place(row: usize, stride: usize, column: usize) -> usize
     row * stride + column
 }
 
-// Side × side elements, from place `from` of the bytes given on, at a place of a plane.
-pub fn put_square(
-    plane: &mut [u8],
+// w × h bytes, from place `from` of the bytes given on, at a place of the part that starts at `to`.
+fn put_part(
+    state: &mut [u8],
     given: &[u8],
     from: usize,
-    side: usize,
+    to: usize,
+    w: usize,
+    h: usize,
     stride: usize,
     x: usize,
     y: usize,
 )
-    requires { ⌜ (from < 65536) × (side ≤ 16) × (stride < 65536) × (x < 65536) × (y < 65000) ⌝ }
+    requires { ⌜ (from < 65536) × (to < 65536) × (w ≤ 32) × (h ≤ 16) × (stride < 65536) × (x < 65536) × (y < 65000) ⌝ }
 {
     let mut r = 0;
     let mut p = from;
-    while r < side {
-        put_bytes(plane, given, p, place(y + r, stride, x), side);
-        p += side;
+    while r < h {
+        put_bytes(state, given, p, to + place(y + r, stride, x), w);
+        p += w;
         r += 1;
     }
 }
 
-// A macroblock's 16 vectors, from place `from` of the bytes given on.
-pub fn put_vectors(
-    mv: &mut [i32],
-    given: &[u8],
-    from: usize,
-    columns: usize,
-    column: usize,
-    row: usize,
-)
-    requires { ⌜ (from < 65536) × (columns < 4096) × (column < 4096) × (row < 4096) ⌝ }
-{
-    let mut i = 0;
-    while i < 32 {
-        let cell = place(4 * row + i / 8, 4 * columns, 4 * column + i / 2 % 4);
-        put_signed(mv, 2 * cell + i % 2, component(given, from + 4 * i));
-        i += 1;
-    }
+// A macroblock's samples, vectors and marks.
+pub fn put_block(state: &mut [u8], given: &[u8], head: &[u8; 80]) {
+    let columns = short_at(head, 4) % 1024;
+    let column = short_at(head, 12) % 1024;
+    let row = short_at(head, 16) % 1024;
+    put_part(
+        state,
+        given,
+        0,
+        0,
+        16,
+        16,
+        16 * columns,
+        16 * column,
+        16 * row,
+    );
+    put_part(
+        state,
+        given,
+        256,
+        1600,
+        8,
+        8,
+        8 * columns,
+        8 * column,
+        8 * row,
+    );
+    put_part(
+        state,
+        given,
+        320,
+        2000,
+        8,
+        8,
+        8 * columns,
+        8 * column,
+        8 * row,
+    );
+    put_part(
+        state,
+        given,
+        384,
+        2500,
+        32,
+        4,
+        32 * columns,
+        32 * column,
+        4 * row,
+    );
+    put_part(
+        state,
+        given,
+        512,
+        2400,
+        4,
+        4,
+        4 * columns,
+        4 * column,
+        4 * row,
+    );
 }

@@ -8,8 +8,7 @@ use cases::head::short_at;
 use cases::head::wide;
 use cases::slices::put_bytes;
 use cases::slices::put_pattern;
-use cases::start::put_square;
-use cases::start::put_vectors;
+use cases::start::put_block;
 use macroblock::MbAnswer;
 use refusal::Refusal;
 use transcript::parse::ParseAnswer;
@@ -77,41 +76,14 @@ fn transcript_agrees(transcript: &[u8], record: &[u8], head: &[u8; 80]) -> bool 
     check::same(&expected, transcript)
 }
 
-fn put_block(
-    y: &mut [u8],
-    cb: &mut [u8],
-    cr: &mut [u8],
-    mv: &mut [i32],
-    marks: &mut [u8],
-    block: &[u8],
-    head: &[u8; 80],
-) {
-    let columns = short_at(head, 4) % 4096;
-    let column = short_at(head, 12) % 4096;
-    let row = short_at(head, 16) % 4000;
-    put_square(y, block, 0, 16, 16 * columns, 16 * column, 16 * row);
-    put_square(cb, block, 256, 8, 8 * columns, 8 * column, 8 * row);
-    put_square(cr, block, 320, 8, 8 * columns, 8 * column, 8 * row);
-    put_vectors(mv, block, 384, columns, column, row);
-    put_square(marks, block, 512, 4, 4 * columns, 4 * column, 4 * row);
-}
-
 // Takes what follows the bits, makes the state the expected one, and compares the transcript.
-pub fn take_answer(
-    y: &mut [u8],
-    cb: &mut [u8],
-    cr: &mut [u8],
-    mv: &mut [i32],
-    marks: &mut [u8],
-    transcript: &[u8],
-    head: &[u8; 80],
-) -> bool {
+pub fn take_answer(state: &mut [u8], transcript: &[u8], head: &[u8; 80]) -> bool {
     let mut record = [0u8; 2200];
     let mut block = [0u8; 528];
     if head[2] != 0 {
         return transcript_agrees(transcript, &record, head);
     }
     let whole = fill(&mut record, short_at(head, 58)) & fill(&mut block, 528);
-    put_block(y, cb, cr, mv, marks, &block, head);
+    put_block(state, &block, head);
     whole & transcript_agrees(transcript, &record, head) & parses(transcript, head)
 }

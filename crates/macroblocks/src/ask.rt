@@ -9,9 +9,9 @@ use cases::head::number_at;
 use cases::head::short_at;
 use cases::slices::put_pattern;
 use cases::slices::within;
-use cases::state::copy_state;
 use cases::state::lent_of;
 use cases::state::same_state;
+use cases::state::unpack;
 use macroblock::MbAnswer;
 use macroblock::svq3_frame::Frame;
 use macroblock::svq3_frame::decode_inter_mb;
@@ -71,7 +71,7 @@ fn decode(
     )
 }
 
-// What is lent is the start of each slice, as long as the head says.
+// What is lent is the start of each part, as long as the head says.
 fn lend(
     y: &mut [u8],
     cb: &mut [u8],
@@ -79,13 +79,11 @@ fn lend(
     mv: &mut [i32],
     marks: &mut [u8],
     transcript: &mut [u8],
-    ry: &[u8],
-    rcb: &[u8],
-    rcr: &[u8],
+    reference: &[u8],
     bits: &[u8],
     head: &[u8; 80],
 ) -> MbAnswer
-    requires { ⌜ (1600 ≤ length (now y)) × (400 ≤ length (now cb)) × (400 ≤ length (now cr)) × (200 ≤ length (now mv)) × (100 ≤ length (now marks)) × (4200 ≤ length (now transcript)) × (1600 ≤ length (now ry)) × (400 ≤ length (now rcb)) × (400 ≤ length (now rcr)) ⌝ }
+    requires { ⌜ (1600 ≤ length (now y)) × (400 ≤ length (now cb)) × (400 ≤ length (now cr)) × (200 ≤ length (now mv)) × (100 ≤ length (now marks)) × (4200 ≤ length (now transcript)) × (2400 ≤ length (now reference)) ⌝ }
 {
     let l = lent_of(head);
     let ny = l.y;
@@ -94,8 +92,8 @@ fn lend(
     let nmv = l.mv;
     let nmarks = l.marks;
     let nry = l.ry;
-    let nrcb = l.rcb;
-    let nrcr = l.rcr;
+    let rcb = l.rcb;
+    let rcr = l.rcr;
     let room = within(short_at(head, 60), 4200);
     decode(
         &mut y[..ny],
@@ -104,91 +102,46 @@ fn lend(
         &mut mv[..nmv],
         &mut marks[..nmarks],
         &mut transcript[..room],
-        &ry[..nry],
-        &rcb[..nrcb],
-        &rcr[..nrcr],
+        &reference[..nry],
+        &reference[1600..rcb],
+        &reference[2000..rcr],
         bits,
         head,
     )
 }
 
-// The macroblock is decoded into copies; then the state becomes the expected one, and all of it is compared.
-fn compare(
-    y: &mut [u8],
-    cb: &mut [u8],
-    cr: &mut [u8],
-    mv: &mut [i32],
-    marks: &mut [u8],
-    ry: &[u8; 1600],
-    rcb: &[u8; 400],
-    rcr: &[u8; 400],
-    bits: &[u8],
-    head: &[u8; 80],
-) -> bool {
-    let mut y_now = [0u8; 1600];
-    let mut cb_now = [0u8; 400];
-    let mut cr_now = [0u8; 400];
-    let mut mv_now = [0i32; 200];
-    let mut marks_now = [0u8; 100];
+// The macroblock is decoded into the state's parts; then the state becomes the expected one, and all of it is compared.
+fn compare(state: &mut [u8], reference: &[u8; 2400], bits: &[u8], head: &[u8; 80]) -> bool {
+    let mut y = [0u8; 1600];
+    let mut cb = [0u8; 400];
+    let mut cr = [0u8; 400];
+    let mut mv = [0i32; 200];
+    let mut marks = [0u8; 100];
     let mut transcript = [0u8; 4200];
-    copy_state(
-        &mut y_now,
-        &mut cb_now,
-        &mut cr_now,
-        &mut mv_now,
-        &mut marks_now,
-        y,
-        cb,
-        cr,
-        mv,
-        marks,
-    );
+    unpack(&mut y, &mut cb, &mut cr, &mut mv, &mut marks, state);
     put_pattern(&mut transcript);
     let got = lend(
-        &mut y_now,
-        &mut cb_now,
-        &mut cr_now,
-        &mut mv_now,
-        &mut marks_now,
+        &mut y,
+        &mut cb,
+        &mut cr,
+        &mut mv,
+        &mut marks,
         &mut transcript,
-        ry,
-        rcb,
-        rcr,
+        reference,
         bits,
         head,
     );
-    let whole = take_answer(y, cb, cr, mv, marks, &transcript, head);
-    let same = same_state(
-        &y_now,
-        &cb_now,
-        &cr_now,
-        &mv_now,
-        &marks_now,
-        y,
-        cb,
-        cr,
-        mv,
-        marks,
-    );
+    let whole = take_answer(state, &transcript, head);
+    let same = same_state(&y, &cb, &cr, &mv, &marks, state);
     answered(got, head) & whole & same
 }
 
 // Whether a macroblock, its bits and its answer yet to come, was decoded as the answer says.
-pub fn agrees(
-    y: &mut [u8],
-    cb: &mut [u8],
-    cr: &mut [u8],
-    mv: &mut [i32],
-    marks: &mut [u8],
-    ry: &[u8; 1600],
-    rcb: &[u8; 400],
-    rcr: &[u8; 400],
-    head: &[u8; 80],
-) -> bool {
+pub fn agrees(state: &mut [u8], reference: &[u8; 2400], head: &[u8; 80]) -> bool {
     let mut bits = [0u8; 4096];
     let m = short_at(head, 56);
     if fill(&mut bits, m) {
-        return compare(y, cb, cr, mv, marks, ry, rcb, rcr, &bits[..m], head);
+        return compare(state, reference, &bits[..m], head);
     }
     false
 }

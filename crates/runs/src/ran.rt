@@ -13,9 +13,9 @@ use cases::head::wide;
 use cases::slices::put_bytes;
 use cases::slices::put_pattern;
 use cases::slices::within;
-use cases::state::copy_state;
 use cases::state::lent_of;
 use cases::state::same_state;
+use cases::state::unpack;
 use run::Report;
 use run::Stop;
 use run::run::run;
@@ -41,8 +41,7 @@ fn reported(report: Report, head: &[u8; 80]) -> bool {
         & stopped(stop, head)
 }
 
-// What is lent is the start of each slice, as long as the head says.
-fn lend(
+fn run_list(
     y: &mut [u8],
     cb: &mut [u8],
     cr: &mut [u8],
@@ -55,29 +54,17 @@ fn lend(
     bits: &[u8],
     list: &[u8],
     head: &[u8; 80],
-) -> Report
-    requires { ⌜ (1600 ≤ length (now y)) × (400 ≤ length (now cb)) × (400 ≤ length (now cr)) × (200 ≤ length (now mv)) × (100 ≤ length (now marks)) × (1600 ≤ length (now ry)) × (400 ≤ length (now rcb)) × (400 ≤ length (now rcr)) × (8192 ≤ length (now transcript)) ⌝ }
-{
-    let l = lent_of(head);
-    let ny = l.y;
-    let ncb = l.cb;
-    let ncr = l.cr;
-    let nmv = l.mv;
-    let nmarks = l.marks;
-    let nry = l.ry;
-    let nrcb = l.rcb;
-    let nrcr = l.rcr;
-    let room = within(short_at(head, 60), 8192);
+) -> Report {
     run(
-        &mut y[..ny],
-        &mut cb[..ncb],
-        &mut cr[..ncr],
-        &mut mv[..nmv],
-        &mut marks[..nmarks],
-        &mut transcript[..room],
-        &ry[..nry],
-        &rcb[..nrcb],
-        &rcr[..nrcr],
+        y,
+        cb,
+        cr,
+        mv,
+        marks,
+        transcript,
+        ry,
+        rcb,
+        rcr,
         bits,
         list,
         frame_of(head),
@@ -86,89 +73,85 @@ fn lend(
     )
 }
 
-// The run into copies: the report and all that is left are as expected.
+// What is lent is the start of each part, as long as the head says.
+fn lend(
+    y: &mut [u8],
+    cb: &mut [u8],
+    cr: &mut [u8],
+    mv: &mut [i32],
+    marks: &mut [u8],
+    transcript: &mut [u8],
+    reference: &[u8],
+    bits: &[u8],
+    list: &[u8],
+    head: &[u8; 80],
+) -> Report
+    requires { ⌜ (1600 ≤ length (now y)) × (400 ≤ length (now cb)) × (400 ≤ length (now cr)) × (200 ≤ length (now mv)) × (100 ≤ length (now marks)) × (8192 ≤ length (now transcript)) × (2400 ≤ length (now reference)) ⌝ }
+{
+    let l = lent_of(head);
+    let ny = l.y;
+    let ncb = l.cb;
+    let ncr = l.cr;
+    let nmv = l.mv;
+    let nmarks = l.marks;
+    let nry = l.ry;
+    let rcb = l.rcb;
+    let rcr = l.rcr;
+    let room = within(short_at(head, 60), 8192);
+    run_list(
+        &mut y[..ny],
+        &mut cb[..ncb],
+        &mut cr[..ncr],
+        &mut mv[..nmv],
+        &mut marks[..nmarks],
+        &mut transcript[..room],
+        &reference[..nry],
+        &reference[1600..rcb],
+        &reference[2000..rcr],
+        bits,
+        list,
+        head,
+    )
+}
+
+// The run from a start's parts: the report and all that is left are as expected.
 fn run_agrees(
     transcript: &mut [u8],
-    y: &[u8],
-    cb: &[u8],
-    cr: &[u8],
-    mv: &[i32],
-    marks: &[u8],
-    y_end: &[u8],
-    cb_end: &[u8],
-    cr_end: &[u8],
-    mv_end: &[i32],
-    marks_end: &[u8],
-    ry: &[u8; 1600],
-    rcb: &[u8; 400],
-    rcr: &[u8; 400],
+    start: &[u8],
+    end: &[u8],
+    reference: &[u8; 2400],
     bits: &[u8],
     list: &[u8],
     head: &[u8; 80],
 ) -> bool
     requires { ⌜ 8192 ≤ length (now transcript) ⌝ }
 {
-    let mut y_now = [0u8; 1600];
-    let mut cb_now = [0u8; 400];
-    let mut cr_now = [0u8; 400];
-    let mut mv_now = [0i32; 200];
-    let mut marks_now = [0u8; 100];
-    copy_state(
-        &mut y_now,
-        &mut cb_now,
-        &mut cr_now,
-        &mut mv_now,
-        &mut marks_now,
-        y,
-        cb,
-        cr,
-        mv,
-        marks,
-    );
+    let mut y = [0u8; 1600];
+    let mut cb = [0u8; 400];
+    let mut cr = [0u8; 400];
+    let mut mv = [0i32; 200];
+    let mut marks = [0u8; 100];
+    unpack(&mut y, &mut cb, &mut cr, &mut mv, &mut marks, start);
     let report = lend(
-        &mut y_now,
-        &mut cb_now,
-        &mut cr_now,
-        &mut mv_now,
-        &mut marks_now,
+        &mut y,
+        &mut cb,
+        &mut cr,
+        &mut mv,
+        &mut marks,
         transcript,
-        ry,
-        rcb,
-        rcr,
+        reference,
         bits,
         list,
         head,
     );
-    reported(report, head)
-        & same_state(
-            &y_now,
-            &cb_now,
-            &cr_now,
-            &mv_now,
-            &marks_now,
-            y_end,
-            cb_end,
-            cr_end,
-            mv_end,
-            marks_end,
-        )
+    reported(report, head) & same_state(&y, &cb, &cr, &mv, &marks, end)
 }
 
-// The run, and the replay of the transcript that it is expected to write.
+// The run, and the replay of the transcript that it wrote, which is the expected one.
 fn both_agree(
-    y: &[u8],
-    cb: &[u8],
-    cr: &[u8],
-    mv: &[i32],
-    marks: &[u8],
-    y_end: &[u8],
-    cb_end: &[u8],
-    cr_end: &[u8],
-    mv_end: &[i32],
-    marks_end: &[u8],
-    ry: &[u8; 1600],
-    rcb: &[u8; 400],
-    rcr: &[u8; 400],
+    start: &[u8],
+    end: &[u8],
+    reference: &[u8; 2400],
     bits: &[u8],
     list: &[u8],
     expected: &[u8],
@@ -176,138 +159,42 @@ fn both_agree(
 ) -> bool {
     let mut transcript = [0u8; 8192];
     put_pattern(&mut transcript);
-    let ran = run_agrees(
-        &mut transcript,
-        y,
-        cb,
-        cr,
-        mv,
-        marks,
-        y_end,
-        cb_end,
-        cr_end,
-        mv_end,
-        marks_end,
-        ry,
-        rcb,
-        rcr,
-        bits,
-        list,
-        head,
-    );
+    let ran = run_agrees(&mut transcript, start, end, reference, bits, list, head);
     let n = within(short_at(head, 58), 8192);
-    let replayed = replay_agrees(
-        y,
-        cb,
-        cr,
-        mv,
-        marks,
-        y_end,
-        cb_end,
-        cr_end,
-        mv_end,
-        marks_end,
-        ry,
-        rcb,
-        rcr,
-        &transcript[..n],
-        head,
-        number_at(head, 20),
-    );
+    let number = number_at(head, 20);
+    let replayed = replay_agrees(start, end, reference, &transcript[..n], head, number);
     ran & replayed & check::same(&transcript, expected)
 }
 
 // Takes the expected transcript and the expected end, then makes the run.
 fn compare(
-    y: &[u8],
-    cb: &[u8],
-    cr: &[u8],
-    mv: &[i32],
-    marks: &[u8],
-    ry: &[u8; 1600],
-    rcb: &[u8; 400],
-    rcr: &[u8; 400],
+    start: &[u8],
+    reference: &[u8; 2400],
     bits: &[u8],
     list: &[u8],
     head: &[u8; 80],
 ) -> bool {
     let mut record = [0u8; 8192];
     let mut expected = [0u8; 8192];
+    let mut end = [0u8; 3300];
     let n = short_at(head, 58);
     let written = fill(&mut record, n);
     put_pattern(&mut expected);
     put_bytes(&mut expected, &record, 0, 0, n);
-    let mut y_end = [0u8; 1600];
-    let mut cb_end = [0u8; 400];
-    let mut cr_end = [0u8; 400];
-    let mut mv_end = [0i32; 200];
-    let mut marks_end = [0u8; 100];
-    let whole = take_end(
-        &mut y_end,
-        &mut cb_end,
-        &mut cr_end,
-        &mut mv_end,
-        &mut marks_end,
-        y,
-        cb,
-        cr,
-        mv,
-        marks,
-        head,
-    );
-    let same = both_agree(
-        y,
-        cb,
-        cr,
-        mv,
-        marks,
-        &y_end,
-        &cb_end,
-        &cr_end,
-        &mv_end,
-        &marks_end,
-        ry,
-        rcb,
-        rcr,
-        bits,
-        list,
-        &expected,
-        head,
-    );
+    let whole = take_end(&mut end, start, head);
+    let same = both_agree(start, &end, reference, bits, list, &expected, head);
     written & whole & same
 }
 
 // Kind 4: whether the run of the list and the bits that follow does as the answer behind them says.
-pub fn agrees(
-    y: &[u8],
-    cb: &[u8],
-    cr: &[u8],
-    mv: &[i32],
-    marks: &[u8],
-    ry: &[u8; 1600],
-    rcb: &[u8; 400],
-    rcr: &[u8; 400],
-    head: &[u8; 80],
-) -> bool {
+pub fn agrees(start: &[u8], reference: &[u8; 2400], head: &[u8; 80]) -> bool {
     let mut list = [0u8; 512];
     let mut bits = [0u8; 4096];
     let l = short_at(head, 52);
     let m = short_at(head, 56);
     if fill(&mut list, l) {
         if fill(&mut bits, m) {
-            return compare(
-                y,
-                cb,
-                cr,
-                mv,
-                marks,
-                ry,
-                rcb,
-                rcr,
-                &bits[..m],
-                &list[..l],
-                head,
-            );
+            return compare(start, reference, &bits[..m], &list[..l], head);
         }
     }
     false

@@ -6,9 +6,9 @@ use cases::head::fill;
 use cases::head::number_at;
 use cases::head::short_at;
 use cases::head::wide;
-use cases::state::copy_state;
 use cases::state::lent_of;
 use cases::state::same_state;
+use cases::state::unpack;
 use checking::CheckAnswer;
 use checking::check_transcript;
 use macroblock::svq3_frame::Frame;
@@ -43,8 +43,7 @@ fn answered(got: ReplayAnswer, head: &[u8; 80], number: u32) -> bool {
     }
 }
 
-// What is lent is the start of each slice, as long as the head says.
-fn lend(
+fn replay_bytes(
     y: &mut [u8],
     cb: &mut [u8],
     cr: &mut [u8],
@@ -55,8 +54,34 @@ fn lend(
     rcr: &[u8],
     bytes: &[u8],
     head: &[u8; 80],
+) -> ReplayAnswer {
+    replay(
+        y,
+        cb,
+        cr,
+        mv,
+        marks,
+        ry,
+        rcb,
+        rcr,
+        bytes,
+        frame_of(head),
+        number_at(head, 24),
+    )
+}
+
+// What is lent is the start of each part, as long as the head says.
+fn lend(
+    y: &mut [u8],
+    cb: &mut [u8],
+    cr: &mut [u8],
+    mv: &mut [i32],
+    marks: &mut [u8],
+    reference: &[u8],
+    bytes: &[u8],
+    head: &[u8; 80],
 ) -> ReplayAnswer
-    requires { ⌜ (1600 ≤ length (now y)) × (400 ≤ length (now cb)) × (400 ≤ length (now cr)) × (200 ≤ length (now mv)) × (100 ≤ length (now marks)) × (1600 ≤ length (now ry)) × (400 ≤ length (now rcb)) × (400 ≤ length (now rcr)) ⌝ }
+    requires { ⌜ (1600 ≤ length (now y)) × (400 ≤ length (now cb)) × (400 ≤ length (now cr)) × (200 ≤ length (now mv)) × (100 ≤ length (now marks)) × (2400 ≤ length (now reference)) ⌝ }
 {
     let l = lent_of(head);
     let ny = l.y;
@@ -65,84 +90,48 @@ fn lend(
     let nmv = l.mv;
     let nmarks = l.marks;
     let nry = l.ry;
-    let nrcb = l.rcb;
-    let nrcr = l.rcr;
-    replay(
+    let rcb = l.rcb;
+    let rcr = l.rcr;
+    replay_bytes(
         &mut y[..ny],
         &mut cb[..ncb],
         &mut cr[..ncr],
         &mut mv[..nmv],
         &mut marks[..nmarks],
-        &ry[..nry],
-        &rcb[..nrcb],
-        &rcr[..nrcr],
+        &reference[..nry],
+        &reference[1600..rcb],
+        &reference[2000..rcr],
         bytes,
-        frame_of(head),
-        number_at(head, 24),
+        head,
     )
 }
 
-// The replay of a transcript from a start, into copies: refused with that number, or done and at the expected end.
+// The replay of a transcript from a start's parts: refused with that number, or done and at the expected end.
 pub fn replay_agrees(
-    y: &[u8],
-    cb: &[u8],
-    cr: &[u8],
-    mv: &[i32],
-    marks: &[u8],
-    y_end: &[u8],
-    cb_end: &[u8],
-    cr_end: &[u8],
-    mv_end: &[i32],
-    marks_end: &[u8],
-    ry: &[u8; 1600],
-    rcb: &[u8; 400],
-    rcr: &[u8; 400],
+    start: &[u8],
+    end: &[u8],
+    reference: &[u8; 2400],
     bytes: &[u8],
     head: &[u8; 80],
     number: u32,
 ) -> bool {
-    let mut y_now = [0u8; 1600];
-    let mut cb_now = [0u8; 400];
-    let mut cr_now = [0u8; 400];
-    let mut mv_now = [0i32; 200];
-    let mut marks_now = [0u8; 100];
-    copy_state(
-        &mut y_now,
-        &mut cb_now,
-        &mut cr_now,
-        &mut mv_now,
-        &mut marks_now,
-        y,
-        cb,
-        cr,
-        mv,
-        marks,
-    );
+    let mut y = [0u8; 1600];
+    let mut cb = [0u8; 400];
+    let mut cr = [0u8; 400];
+    let mut mv = [0i32; 200];
+    let mut marks = [0u8; 100];
+    unpack(&mut y, &mut cb, &mut cr, &mut mv, &mut marks, start);
     let got = lend(
-        &mut y_now,
-        &mut cb_now,
-        &mut cr_now,
-        &mut mv_now,
-        &mut marks_now,
-        ry,
-        rcb,
-        rcr,
+        &mut y,
+        &mut cb,
+        &mut cr,
+        &mut mv,
+        &mut marks,
+        reference,
         bytes,
         head,
     );
-    answered(got, head, number)
-        & same_state(
-            &y_now,
-            &cb_now,
-            &cr_now,
-            &mv_now,
-            &marks_now,
-            y_end,
-            cb_end,
-            cr_end,
-            mv_end,
-            marks_end,
-        )
+    answered(got, head, number) & same_state(&y, &cb, &cr, &mv, &marks, end)
 }
 
 // The check of a transcript alone: byte 3 has its refusal.
@@ -153,73 +142,20 @@ fn check_agrees(bytes: &[u8], head: &[u8; 80]) -> bool {
     }
 }
 
-fn compare(
-    y: &[u8],
-    cb: &[u8],
-    cr: &[u8],
-    mv: &[i32],
-    marks: &[u8],
-    ry: &[u8; 1600],
-    rcb: &[u8; 400],
-    rcr: &[u8; 400],
-    bytes: &[u8],
-    head: &[u8; 80],
-) -> bool {
-    let mut y_end = [0u8; 1600];
-    let mut cb_end = [0u8; 400];
-    let mut cr_end = [0u8; 400];
-    let mut mv_end = [0i32; 200];
-    let mut marks_end = [0u8; 100];
-    let whole = take_end(
-        &mut y_end,
-        &mut cb_end,
-        &mut cr_end,
-        &mut mv_end,
-        &mut marks_end,
-        y,
-        cb,
-        cr,
-        mv,
-        marks,
-        head,
-    );
-    let same = replay_agrees(
-        y,
-        cb,
-        cr,
-        mv,
-        marks,
-        &y_end,
-        &cb_end,
-        &cr_end,
-        &mv_end,
-        &marks_end,
-        ry,
-        rcb,
-        rcr,
-        bytes,
-        head,
-        wide(head[2]) as u32,
-    );
+fn compare(start: &[u8], reference: &[u8; 2400], bytes: &[u8], head: &[u8; 80]) -> bool {
+    let mut end = [0u8; 3300];
+    let whole = take_end(&mut end, start, head);
+    let number = wide(head[2]) as u32;
+    let same = replay_agrees(start, &end, reference, bytes, head, number);
     same & whole & check_agrees(bytes, head)
 }
 
 // Kind 5: whether the replay of the transcript that follows does as the answer behind it says.
-pub fn agrees(
-    y: &[u8],
-    cb: &[u8],
-    cr: &[u8],
-    mv: &[i32],
-    marks: &[u8],
-    ry: &[u8; 1600],
-    rcb: &[u8; 400],
-    rcr: &[u8; 400],
-    head: &[u8; 80],
-) -> bool {
+pub fn agrees(start: &[u8], reference: &[u8; 2400], head: &[u8; 80]) -> bool {
     let mut bytes = [0u8; 8192];
     let n = short_at(head, 58);
     if fill(&mut bytes, n) {
-        return compare(y, cb, cr, mv, marks, ry, rcb, rcr, &bytes[..n], head);
+        return compare(start, reference, &bytes[..n], head);
     }
     false
 }
