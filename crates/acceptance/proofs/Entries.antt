@@ -15,9 +15,9 @@ use Rattle.macroblock.specs.Entry.{stateOf, left, quantiserBy}
 use Rattle.macroblock.specs.declared.svq3_frame.Frame.{Frame}
 use Rattle.macroblock.specs.declared.MbAnswer.{MbAnswer}
 use Rattle.run.specs.Left.{leftOf, listLeft}
-use Rattle.run.specs.Replay.{replayLeft, replayed}
+use Rattle.replay.specs.Replay.{replayLeft, replayed}
 use Rattle.run.specs.declared.Report.{Report}
-use Rattle.run.specs.declared.ReplayAnswer.{ReplayAnswer}
+use Rattle.replay.specs.declared.ReplayAnswer.{ReplayAnswer}
 use Rattle.acceptance.specs.Told.{mbTold, runTold, replayTold}
 use Rattle.acceptance.specs.Entries.{Slices, Ended, ended, startOf, five, two, telling, unlessShort, mbTelling, runTelling, replayTelling, mbEnded, runEnded, replayEnded}
 use Rattle.acceptance.specs.declared.Told.{Told}

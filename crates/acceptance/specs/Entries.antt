@@ -13,7 +13,7 @@ use Rattle.macroblock.specs.Decode.{Outcome, decoded}
 use Rattle.macroblock.specs.Entry.{stateOf}
 use Rattle.macroblock.specs.declared.svq3_frame.Frame.{Frame}
 use Rattle.run.specs.Left.{Left, listLeft}
-use Rattle.run.specs.Replay.{Replay, replayed}
+use Rattle.replay.specs.Replay.{Replay, replayed}
 use Rattle.acceptance.specs.Told.{mbTold, runTold, replayTold}
 use Rattle.acceptance.specs.declared.Told.{Told}
 

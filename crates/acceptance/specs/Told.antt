@@ -11,8 +11,8 @@ use Rattle.macroblock.specs.declared.MbAnswer.the-variants as mb
 use Rattle.run.specs.declared.Report.{Report}
 use Rattle.run.specs.declared.Stop.{Stop}
 use Rattle.run.specs.declared.Stop.the-variants.{Done, By}
-use Rattle.run.specs.declared.ReplayAnswer.{ReplayAnswer}
-use Rattle.run.specs.declared.ReplayAnswer.the-variants as replay
+use Rattle.replay.specs.declared.ReplayAnswer.{ReplayAnswer}
+use Rattle.replay.specs.declared.ReplayAnswer.the-variants as replay
 use Rattle.acceptance.specs.Words.{wordOf}
 use Rattle.acceptance.specs.declared.Told.{Told}
 

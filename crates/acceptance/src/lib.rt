@@ -14,10 +14,10 @@ use questions::Call;
 use reading::svq3_frame::Flags;
 use refusal::detail_of;
 use refusal::number_of;
-use run::ReplayAnswer;
+use replay::ReplayAnswer;
+use replay::replay::replay;
 use run::Report;
 use run::Stop;
-use run::replay::replay;
 use run::run::run;
 
 // What a caller is told: 0 or the refusal's number, and the counts.

@@ -73,64 +73,14 @@ fn put_part(
     }
 }
 
-// A macroblock's samples, vectors and marks.
+// The samples, vectors and marks of the macroblock in column x and row y of a grid of c columns.
 pub fn put_block(state: &mut [u8], given: &[u8], head: &[u8; 80]) {
-    let columns = short_at(head, 4) % 1024;
-    let column = short_at(head, 12) % 1024;
-    let row = short_at(head, 16) % 1024;
-    put_part(
-        state,
-        given,
-        0,
-        0,
-        16,
-        16,
-        16 * columns,
-        16 * column,
-        16 * row,
-    );
-    put_part(
-        state,
-        given,
-        256,
-        1600,
-        8,
-        8,
-        8 * columns,
-        8 * column,
-        8 * row,
-    );
-    put_part(
-        state,
-        given,
-        320,
-        2000,
-        8,
-        8,
-        8 * columns,
-        8 * column,
-        8 * row,
-    );
-    put_part(
-        state,
-        given,
-        384,
-        2500,
-        32,
-        4,
-        32 * columns,
-        32 * column,
-        4 * row,
-    );
-    put_part(
-        state,
-        given,
-        512,
-        2400,
-        4,
-        4,
-        4 * columns,
-        4 * column,
-        4 * row,
-    );
+    let c = short_at(head, 4) % 1024;
+    let x = short_at(head, 12) % 1024;
+    let y = short_at(head, 16) % 1024;
+    put_part(state, given, 0, 0, 16, 16, 16 * c, 16 * x, 16 * y);
+    put_part(state, given, 256, 1600, 8, 8, 8 * c, 8 * x, 8 * y);
+    put_part(state, given, 320, 2000, 8, 8, 8 * c, 8 * x, 8 * y);
+    put_part(state, given, 384, 2500, 32, 4, 32 * c, 32 * x, 4 * y);
+    put_part(state, given, 512, 2400, 4, 4, 4 * c, 4 * x, 4 * y);
 }

@@ -25,8 +25,8 @@ use Rattle.checking.specs.Records.{recordsIn, records}
 use Rattle.reading.specs.Read.{predictorAt, moved, readVectors, quantiserIn, readQuantiser, recordOf, atFirst, readResidual, readCoded, readMacroblock}
 use Rattle.macroblock.specs.Decode.{outcomeOf, decoded}
 use Rattle.run.specs.Run.{ended, withCall, ranFrom, ran, transcriptOf}
-use Rattle.printing.specs.Text.{hexDigit, hexBytes, digits, decimal, line, hexLine, countLine, bitsLine, refusedLine}
-use Rattle.printing.specs.Header.{ranged, headerIn, callsFrom}
+use Rattle.lines.specs.Text.{hexDigit, hexBytes, digits, decimal, line, hexLine, countLine, bitsLine, refusedLine}
+use Rattle.lines.specs.Header.{ranged, headerIn, callsFrom}
 use Rattle.printing.specs.Print.{start, room, recordLines, printedRun, printed}
 
 -- `bits 0`, `refused 5`, `refused 14`, `refused 15`

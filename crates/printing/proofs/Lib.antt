@@ -1,7 +1,4 @@
-pub mod Headers
-pub mod Texts
 pub mod Lines
-pub mod Lists
 pub mod Runs
 pub mod Starts
 pub mod Inputs

@@ -23,10 +23,10 @@ use Rattle.transcript.proofs.Answers.{ParsedBy, parsed, parse-refused}
 use Rattle.transcript.proofs.Writing.{Still, still-all, still-more, still-fits, still-none}
 use Rattle.checking.specs.Records.{records}
 use Rattle.checking.proofs.Laws.{records-none, records-first, records-next}
-use Rattle.run.specs.Recorded.{Recorded}
-use Rattle.printing.specs.Text.{hexBytes, hexLine, line, bitsLine}
+use Rattle.replay.specs.Recorded.{Recorded}
+use Rattle.lines.specs.Text.{hexBytes, hexLine, line, bitsLine}
 use Rattle.printing.specs.Print.{recordLines, linesOf, stopLines}
-use Rattle.printing.proofs.Texts.{line-length, bits-length, refused-length}
+use Rattle.lines.proofs.Texts.{line-length, bits-length, refused-length}
 use Rattle.run.specs.declared.Stop.{Stop}
 use Rattle.run.specs.declared.Stop.the-variants.{Done, By}
 

@@ -46,9 +46,9 @@ use Rattle.macroblock.specs.declared.MbAnswer.the-variants.{Accepted, Refused}
 use Rattle.run.specs.Run.{Ran, ended, withCall, onward, ranFrom, ran, stopOf}
 use Rattle.run.specs.declared.Stop.the-variants.{Done, By}
 use Rattle.theorems.proofs.Traces.{Kind, no, yes, kind, path-range}
-use Rattle.printing.specs.Header.{HeaderRange, callsFrom}
+use Rattle.lines.specs.Header.{HeaderRange, callsFrom}
 use Rattle.printing.specs.Print.{start, room}
-use Rattle.printing.specs.declared.header.Header.{Header}
+use Rattle.lines.specs.declared.header.Header.{Header}
 
 -- ---- no reader refuses by 8
 abbrev Never : {E X : Type 0} → (List E → Got X) → Type 0

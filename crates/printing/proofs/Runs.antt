@@ -17,13 +17,13 @@ use Rattle.checking.specs.Records.{records}
 use Rattle.macroblock.specs.State.{State}
 use Rattle.macroblock.specs.Decode.{applied, Outcome, outcomeOf, decoded}
 use Rattle.run.specs.Run.{Ran, ended, withCall, onward, ranFrom, ran, ranOf, ranList, transcriptOf}
-use Rattle.run.specs.Recorded.{Recorded}
+use Rattle.replay.specs.Recorded.{Recorded}
 use Rattle.run.specs.declared.Stop.the-variants.{Done, By}
 use Rattle.run.specs.Left.{listLeft, leaves}
 use Rattle.run.specs.declared.Report.{Report}
-use Rattle.printing.specs.Text.{bitsLine}
+use Rattle.lines.specs.Text.{bitsLine}
 use Rattle.printing.specs.Print.{start, room, linesOf, stopLines, printedRun}
-use Rattle.printing.specs.declared.header.Header.{Header}
+use Rattle.lines.specs.declared.header.Header.{Header}
 use Rattle.theorems.specs.Trace.{bytesOf}
 use Rattle.theorems.proofs.Traces.{Kind, no, yes, kind, path-range}
 use Rattle.theorems.proofs.Paths.{path-ranged}

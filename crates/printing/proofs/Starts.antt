@@ -12,9 +12,9 @@ use Rattle.macroblock.specs.State.{State}
 use Rattle.macroblock.specs.Entry.{stateOf}
 use Rattle.macroblock.specs.declared.svq3_frame.Frame.{Frame}
 use Rattle.run.specs.Left.{Left, listLeft}
-use Rattle.printing.specs.Header.{HeaderRange}
+use Rattle.lines.specs.Header.{HeaderRange}
 use Rattle.printing.specs.Print.{frameOf, start}
-use Rattle.printing.specs.declared.header.Header.{Header}
+use Rattle.lines.specs.declared.header.Header.{Header}
 
 pub grid-most : (h : Header) → HeaderRange h → h .cols * h .rows ≤ 16
 grid-most h r = mul-le-mul (r .cols) (r .rows)

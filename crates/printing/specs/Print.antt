@@ -17,9 +17,9 @@ use Rattle.macroblock.specs.declared.svq3_frame.Frame.{Frame}
 use Rattle.run.specs.Run.{Ran, ran, transcriptOf}
 use Rattle.run.specs.declared.Stop.{Stop}
 use Rattle.run.specs.declared.Stop.the-variants.{Done, By}
-use Rattle.printing.specs.Text.{hexLine, bitsLine, refusedLine}
-use Rattle.printing.specs.Header.{headerIn, callsFrom}
-use Rattle.printing.specs.declared.header.Header.{Header}
+use Rattle.lines.specs.Text.{hexLine, bitsLine, refusedLine}
+use Rattle.lines.specs.Header.{headerIn, callsFrom}
+use Rattle.lines.specs.declared.header.Header.{Header}
 
 -- flags are 1 half + 2 third
 abbrev pub frameOf : Header → Frame

@@ -1,4 +1,2 @@
 pub mod Laws
 pub mod Whole
-pub mod Records
-pub mod Replays

@@ -1,4 +1,2 @@
 pub mod Run
 pub mod Left
-pub mod Replay
-pub mod Recorded

@@ -1,6 +1,5 @@
 use refusal::Refusal;
 
-pub mod replay;
 pub mod run;
 
 // Why a run ended.
@@ -19,10 +18,4 @@ pub struct Report {
     pub quantiser: u32,
     pub fill: usize,
     pub stop: Stop,
-}
-
-pub enum ReplayAnswer {
-    // the number of records, and the quantiser after them
-    Replayed(usize, u32),
-    Refused(Refusal),
 }

@@ -13,8 +13,8 @@ use checking::CheckAnswer;
 use checking::check_transcript;
 use macroblock::svq3_frame::Frame;
 use reading::svq3_frame::Flags;
-use run::ReplayAnswer;
-use run::replay::replay;
+use replay::ReplayAnswer;
+use replay::replay::replay;
 
 pub fn frame_of(head: &[u8; 80]) -> Frame {
     let flags = head[1];

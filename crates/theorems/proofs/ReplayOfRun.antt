@@ -25,9 +25,9 @@ use Rattle.calls.specs.Calls.{calls}
 use Rattle.run.specs.Run.{Ran, ended, onward, ranFrom, ran, ranOf, ranList, transcriptOf}
 use Rattle.lists.proofs.Laws.{until-end, until-turn}
 use Rattle.checking.specs.Records.{recordsIn, records}
-use Rattle.run.specs.Replay.{appliedAll, Replay, replayOf, unlessAsked, replayed}
-use Rattle.run.specs.declared.ReplayAnswer.{ReplayAnswer}
-use Rattle.run.specs.declared.ReplayAnswer.the-variants.{Replayed, Refused}
+use Rattle.replay.specs.Replay.{appliedAll, Replay, replayOf, unlessAsked, replayed}
+use Rattle.replay.specs.declared.ReplayAnswer.{ReplayAnswer}
+use Rattle.replay.specs.declared.ReplayAnswer.the-variants.{Replayed, Refused}
 use Rattle.theorems.specs.Trace.{Path, done, step, callsOf, bytesOf}
 use Rattle.theorems.proofs.Traces.{Trace, Kind, no, yes, kind}
 use Rattle.theorems.proofs.Paths.{Ranged, none, more, path-ranged}

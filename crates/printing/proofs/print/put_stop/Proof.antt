@@ -6,7 +6,7 @@ use lib.ListN.{length}
 use Rattle.run.specs.declared.Stop.{Stop}
 use Rattle.transcript.specs.Answers.{Written}
 use Rattle.printing.specs.Print.{stopLines}
-use Rattle.printing.proofs.Texts.{written-none}
+use Rattle.lines.proofs.Texts.{written-none}
 use borrow.Author.Needs.{needs}
 use Rattle.printing.proofs.print.put_stop.Statement.{statement}
 use Rattle.printing.proofs.print.put_stop.Tie as tie

@@ -1,0 +1,47 @@
+-- Replay: the records of a transcript, all read before anything changes, then applied one after another.
+-- Assumes nothing.
+use mathlib.Core.List.{List, [], _∷_}
+use Prim.Native.Nat.{ℕ}
+use lib.ListN.{length}
+use lib.IntN.{ℤ}
+use Rattle.refusal.specs.Got.{Got, got, refused}
+use Rattle.questions.specs.Questions.{askReplay}
+use Rattle.questions.specs.declared.Asked.{Asked}
+use Rattle.questions.specs.declared.Asked.the-variants.{Yes, No}
+use Rattle.record.specs.Record.{Record}
+use Rattle.checking.specs.Records.{records}
+use Rattle.macroblock.specs.State.{State, lengthsOf}
+use Rattle.macroblock.specs.Entry.{stateOf}
+use Rattle.macroblock.specs.declared.svq3_frame.Frame.{Frame}
+use Rattle.macroblock.specs.Decode.{applied}
+use Rattle.replay.specs.declared.ReplayAnswer.{ReplayAnswer}
+use Rattle.replay.specs.declared.ReplayAnswer.the-variants.{Replayed, Refused}
+
+-- each record's work in turn
+unfoldable pub appliedAll : State → List Record → State
+appliedAll s [] = s
+appliedAll s (r ∷ rs) = appliedAll (applied s r) rs
+
+pub record Replay : Type 0 where
+  pub answer : ReplayAnswer
+  pub state : State
+
+unfoldable pub replayOf : State → Got (List Record) → Replay
+replayOf s (got rs n) = let t = appliedAll s rs in record { answer = Replayed (length rs) (t .quantiser); state = t }
+replayOf s (refused why) = record { answer = Refused why; state = s }
+
+abbrev pub unlessAsked : Asked → State → Replay → Replay
+unlessAsked Yes s done = done
+unlessAsked (No why) s done = record { answer = Refused why; state = s }
+
+-- 1 to 4 and 6, then the check of all records, then the work
+unfoldable pub replayed : State → List ℕ → Replay
+replayed s bytes = unlessAsked (askReplay (s .cols) (s .rows) (lengthsOf s) (s .quantiser)) s (replayOf s (records (s .cols) (s .rows) bytes))
+
+-- an answer and what the slices hold: the quantiser afterwards is the answer's
+abbrev pub quantiserOf : ℕ → ReplayAnswer → ℕ
+quantiserOf q (Replayed n after) = after
+quantiserOf q (Refused why) = q
+
+abbrev pub replayLeft : ReplayAnswer → Frame → ℕ → List ℕ → List ℕ → List ℕ → List ℕ → List ℕ → List ℕ → List ℤ → List ℕ → Replay
+replayLeft answer frame quantiser ry rcb rcr y cb cr mv marks = record { answer = answer; state = stateOf frame (quantiserOf quantiser answer) ry rcb rcr y cb cr mv marks }
