@@ -1,4 +1,4 @@
--- `run::replay::replay` meets its contract: the questions, the check of all records, then the work.
+-- `replay::replay::replay` meets its contract: the questions, the check of all records, then the work.
 use mathlib.Core.Path.{_≡_, refl, sym, ap, _∙_}
 use Prim.Native.Nat.{ℕ}
 use denote.Ref.{now}
