@@ -1,4 +1,4 @@
--- `printing::header::read_header`: each number in its turn.
+-- `lines::header::read_header`: each number in its turn.
 use mathlib.Core.Path.{sym, _∙_}
 use Rattle.lines.proofs.Headers.{no-cols, no-rows, no-flags, no-delta, no-quantiser, no-count, whole}
 use borrow.Author.Needs.{needs}

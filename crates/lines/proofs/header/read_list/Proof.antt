@@ -1,4 +1,4 @@
--- `printing::header::read_list`: where the calls that are left end is where all of them do.
+-- `lines::header::read_list`: where the calls that are left end is where all of them do.
 use mathlib.Core.Path.{_≡_, refl, sym, ap, _∙_}
 use Prim.Native.Nat.{ℕ, _-_, _≤_}
 use native.Mathlib.Omega.{arith}

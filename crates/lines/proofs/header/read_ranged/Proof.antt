@@ -1,4 +1,4 @@
--- `printing::header::read_ranged`: what `read_number` answered, where it is in range.
+-- `lines::header::read_ranged`: what `read_number` answered, where it is in range.
 use mathlib.Core.Path.{sym, _∙_}
 use Rattle.lines.proofs.Headers.{within, beyond, no-form}
 use borrow.Author.Needs.{needs}

@@ -1,4 +1,4 @@
--- `printing::text::put_decimal`: the number without its last digit, then that digit. The measure is the number.
+-- `lines::text::put_decimal`: the number without its last digit, then that digit. The measure is the number.
 use Prim.Native.Nat.{ℕ, _/_, _<_}
 use native.Mathlib.Omega.{arith}
 use lib.ListN.{length, length-set}

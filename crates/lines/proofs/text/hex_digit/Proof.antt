@@ -1,4 +1,4 @@
--- `printing::text::hex_digit`: 0 to 9, then a to f.
+-- `lines::text::hex_digit`: 0 to 9, then a to f.
 use borrow.Author.Tests.{lt-ltb, le-ltb}
 use Rattle.ints.specs.Z.{if_then_else_}
 use Rattle.lines.specs.Text.{hexDigit}

@@ -1,4 +1,4 @@
--- `printing::text::put_bits`: the word is `bits`.
+-- `lines::text::put_bits`: the word is `bits`.
 use Rattle.lines.specs.Text.{bitsLine}
 use borrow.Author.Needs.{needs}
 use Rattle.lines.proofs.text.put_bits.Statement.{statement}

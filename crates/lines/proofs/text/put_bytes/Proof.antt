@@ -1,4 +1,4 @@
--- `printing::text::put_bytes`: the bytes that are left, written at their place, give the whole.
+-- `lines::text::put_bytes`: the bytes that are left, written at their place, give the whole.
 use mathlib.Core.Path.{_≡_, refl}
 use Prim.Native.Nat.{_+_, _-_, _≤_}
 use native.Mathlib.Nat.{add-zero, add-assoc}

@@ -1,4 +1,4 @@
--- `printing::text::put_count`: the word, the number, the end of the line.
+-- `lines::text::put_count`: the word, the number, the end of the line.
 use mathlib.Core.List.{List, [], _∷_}
 use Prim.Native.Nat.{ℕ}
 use Rattle.transcript.proofs.Writing.{Due, due-all, due-fits, due-next, due-none}

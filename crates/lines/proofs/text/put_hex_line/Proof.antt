@@ -1,4 +1,4 @@
--- `printing::text::put_hex_line`: the digits that are left, and the end of the line, written at their place, give the whole.
+-- `lines::text::put_hex_line`: the digits that are left, and the end of the line, written at their place, give the whole.
 use mathlib.Core.Path.{_≡_, refl, sym, ap, _∙_}
 use mathlib.Core.List.{[], _∷_}
 use Prim.Native.Nat.{_+_, _-_, _≤_, _<_}

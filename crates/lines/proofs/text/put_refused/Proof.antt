@@ -1,4 +1,4 @@
--- `printing::text::put_refused`: the word is `refused`, and the number is the refusal's.
+-- `lines::text::put_refused`: the word is `refused`, and the number is the refusal's.
 use Rattle.lines.specs.Text.{refusedLine}
 use borrow.Author.Needs.{needs}
 use Rattle.lines.proofs.text.put_refused.Statement.{statement}
