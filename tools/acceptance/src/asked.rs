@@ -76,7 +76,7 @@ pub fn wrong_start(case: &Case, draw: &mut Draw, tally: &mut Tally) -> Result<()
     let asked = Asked { case, start: &start, given: &given };
     asked.call(tally).and_then(|()| asked.others(tally)).map_err(|what| {
         let Start { cols, rows, quantiser, .. } = &start;
-        format!("{what}, with {wrong:?} wrong: {given:?}, {cols} by {rows}, quantiser {quantiser}\n{}", case.line)
+        format!("{what}, with {wrong:?} wrong: {given:?}, {cols} by {rows}, quantiser {quantiser}\n{}", case.line())
     })?;
     short_counts(case, draw, tally)
 }
@@ -220,7 +220,7 @@ fn short_counts(case: &Case, draw: &mut Draw, tally: &mut Tally) -> Result<(), S
         _ => ours.replay(&[0, 0, 0], n % 2),
     };
     if told.code != -1 || ours != s || told.counts.iter().any(|&count| count != BEFORE) {
-        return Err(format!("{n} counts: {told:?}\n{}", case.line));
+        return Err(format!("{n} counts: {told:?}\n{}", case.line()));
     }
     tally.add("counts too short", "refused");
     Ok(())

@@ -4,6 +4,7 @@ use crate::case::Case;
 use crate::draw::Draw;
 use crate::ours::{Start, call_list};
 use crate::reader::{mode_of, reader_at};
+use crate::records;
 use crate::refusal::Refusal;
 use crate::tally::Tally;
 use crate::text::{hex, join};
@@ -18,23 +19,35 @@ pub const RECORD: usize = 2089;
 const REFUSALS: usize = 3;
 
 /// Where a run stopped: after so many calls, with the refusal's number and detail, or 0.
-struct Stop {
-    accepted: u64,
+pub struct Stop {
+    pub accepted: u64,
     place: u64,
     fill: u64,
-    code: i64,
+    pub code: i64,
     detail: i64,
     left: Start,
+}
+
+impl Stop {
+    pub fn transcript(&self) -> &[u8] {
+        &self.left.transcript[..self.fill as usize]
+    }
 }
 
 pub fn whole(case: &Case, draw: &mut Draw, tally: &mut Tally) -> Result<(), String> {
     // Room for every call, mostly; else it ends at some call.
     let most = RECORD * case.calls.len();
     let room = if draw.below(12) == 0 { draw.below(1 + 3 * RECORD as u32) as usize } else { most };
+    with_room(case, room, draw, tally).map(drop)
+}
+
+/// Where the run stopped, with `room` transcript bytes.
+pub fn with_room(case: &Case, room: usize, draw: &mut Draw, tally: &mut Tally) -> Result<Stop, String> {
     let start = Start::of(&case.run, room);
     let stop = call_by_call(case, &start, tally)?;
     run_at_once(case, &start, &stop, tally)?;
-    replayed(case, &start, &stop, draw, tally)
+    replayed(case, &start, &stop, draw, tally)?;
+    Ok(stop)
 }
 
 /// Both sides between two calls: the Rust's picture and reader, and ours.
@@ -86,7 +99,14 @@ impl Walk<'_> {
         if told.code != code {
             return Err(format!("ours answers {}, {code} is due (detail {detail})", told.code));
         }
-        if code == 0 { self.accepted(before, &told.counts) } else { self.refused(before, &told.counts, code, detail) }
+        if code != 0 {
+            return self.refused(before, &told.counts, code, detail);
+        }
+        if before.cols.max(before.rows) > 64 {
+            let last = [u64::from(call[0]) + 1, u64::from(call[1]) + 1] == [before.cols, before.rows];
+            tally.add("accepted on a long grid", if last { "last macroblock" } else { "other macroblocks" });
+        }
+        self.accepted(before, &told.counts)
     }
 
     fn accepted(&mut self, before: &Start, counts: &[u64]) -> Result<bool, String> {
@@ -101,6 +121,10 @@ impl Walk<'_> {
         let (fill, filled) = (self.fill, counts[2]);
         if !(fill < filled && filled <= fill + RECORD as u64) || others_changed(before, &self.ours, fill, filled) {
             return Err(format!("the transcript's fill goes from {fill} to {filled}, or bytes of others change"));
+        }
+        let record = records::counted(&self.ours.transcript[fill as usize..filled as usize])?;
+        if (record.records, record.clipped) != (1, counts[3]) {
+            return Err(format!("{record:?} in the transcript where one and {} are due", counts[3]));
         }
         (self.place, self.fill) = (after, filled);
         self.accepted += u64::from(self.stop.is_none());
@@ -182,10 +206,10 @@ fn run_at_once(case: &Case, start: &Start, stop: &Stop, tally: &mut Tally) -> Re
     let code = if case.calls.is_empty() && run.reference.is_none() { 3 } else { stop.code };
     let counts = [stop.accepted, stop.place - run.place, stop.fill, stop.left.quantiser.into(), stop.detail as u64];
     if told.code != code || told.counts != counts {
-        return Err(format!("the run answers {told:?} where {code} and {counts:?} are due\n{}", case.line));
+        return Err(format!("the run answers {told:?} where {code} and {counts:?} are due\n{}", case.line()));
     }
     if ours != stop.left {
-        return Err(format!("the run leaves another state than its calls\n{}", case.line));
+        return Err(format!("the run leaves another state than its calls\n{}", case.line()));
     }
     tally.add("run", if code == 0 { "accepted" } else { "refused" });
     Ok(())
@@ -196,15 +220,15 @@ fn replayed(case: &Case, start: &Start, stop: &Stop, draw: &mut Draw, tally: &mu
     if case.run.reference.is_none() {
         return Ok(());
     }
-    let transcript = &stop.left.transcript[..stop.fill as usize];
+    let transcript = stop.transcript();
     let mut ours = start.clone();
     let told = ours.replay(transcript, 2);
     if told.code != 0 || told.counts != [stop.accepted, stop.left.quantiser.into()] {
-        return Err(format!("the replay of {} answers {told:?}\n{}", hex(transcript), case.line));
+        return Err(format!("the replay of {} answers {told:?}\n{}", hex(transcript), case.line()));
     }
     ours.quantiser = stop.left.quantiser;
     if let Some(what) = ours.differs(&stop.left) {
-        return Err(format!("the replay of {} leaves other {what}\n{}", hex(transcript), case.line));
+        return Err(format!("the replay of {} leaves other {what}\n{}", hex(transcript), case.line()));
     }
     tally.add("replay", "as the run left");
     if transcript.is_empty() {
@@ -225,7 +249,7 @@ fn replayed(case: &Case, start: &Start, stop: &Stop, draw: &mut Draw, tally: &mu
         return Err(format!(
             "the refused replay of {} answers {told:?} or changes something\n{}",
             hex(&damaged),
-            case.line
+            case.line()
         ));
     }
     tally.add("damaged transcript", if told.code == 0 { "accepted".into() } else { format!("refused {}", told.code) });

@@ -32,8 +32,11 @@ mod text;
 mod asked;
 mod case;
 mod compare;
+mod ends;
 mod ours;
+mod pairs;
 mod query;
+mod records;
 mod seed;
 mod tally;
 
@@ -79,7 +82,7 @@ fn main() {
         }
         let drawn = mixed(seed, n);
         if let Err(difference) =
-            guard::guarded(|| one(drawn, &mut tally)).unwrap_or_else(|panic| Err(format!("panic {panic}")))
+            guard::guarded(|| one(n, drawn, &mut tally)).unwrap_or_else(|panic| Err(format!("panic {panic}")))
         {
             println!("DIFFERENCE in run {n} (drawn from {drawn}): {difference}");
             std::process::exit(1);
@@ -88,11 +91,25 @@ fn main() {
     tally.print(begun.elapsed());
 }
 
-/// One drawn run and one start whose questions have another answer than yes, mostly.
-fn one(drawn: u32, tally: &mut Tally) -> Result<(), String> {
+/// Run n: a drawn run, a second one from its start, and a start with something wrong. Long grids and runs ended at each bit
+/// take long: they are the first of a thousand, so that a short part has them too.
+fn one(n: u64, drawn: u32, tally: &mut Tally) -> Result<(), String> {
     let mut draw = Draw::new(drawn);
-    let case = case::drawn(&mut draw, tally);
+    if n % 500 == 2 {
+        return ends::each_bit(&mut draw, tally);
+    }
+    let case = match n % 2000 {
+        0 => case::long(&mut draw, tally, 4096, 1),
+        1 => case::long(&mut draw, tally, 1, 4096),
+        n @ (1000 | 1001) => {
+            let length = 65 + draw.below(4031);
+            let (columns, rows) = if n == 1000 { (length, 1) } else { (1, length) };
+            case::long(&mut draw, tally, columns, rows)
+        }
+        _ => case::drawn(&mut draw, tally),
+    };
     compare::whole(&case, &mut draw, tally)?;
+    pairs::drawn(&case, &mut draw, tally)?;
     asked::wrong_start(&case, &mut draw, tally)
 }
 

@@ -9,15 +9,19 @@ pub struct Tally {
 }
 
 /// Each section's heading, in the order of printing.
-const SECTIONS: [&str; 9] = [
+const SECTIONS: [&str; 13] = [
     "bits",
     "grid",
     "accepted in mode",
+    "accepted on a long grid",
     "refused while reading",
     "first question answered with no (0 none)",
     "run",
+    "ended at a bit",
     "replay",
     "damaged transcript",
+    "second run of a pair",
+    "pairs of runs from one start",
     "counts too short",
 ];
 
@@ -33,12 +37,11 @@ impl Tally {
 
     pub fn print(&self, taken: Duration) {
         for section in SECTIONS {
-            let row: Vec<String> = self
-                .counts
-                .iter()
-                .filter(|entry| entry.0.0 == section)
-                .map(|entry| format!("{} {}", entry.0.1, entry.1))
-                .collect();
+            let mut row: Vec<(&String, &u64)> =
+                self.counts.iter().filter(|entry| entry.0.0 == section).map(|entry| (&entry.0.1, entry.1)).collect();
+            // Refusals by number.
+            row.sort_by_key(|entry| entry.0.split(' ').next().and_then(|word| word.parse::<u32>().ok()));
+            let row: Vec<String> = row.iter().map(|(kind, count)| format!("{kind} {count}")).collect();
             println!("{section}: {}", if row.is_empty() { "none".into() } else { row.join(", ") });
         }
         let accepted = self.sum("accepted in mode");
