@@ -1,8 +1,10 @@
 # make demo   the main job on an example
-# make test   the gate: the comparison with the published Rust where rustc is at hand, then rt ci
+# make test   the gate: rt ci; where rustc is at hand, before it the published Rust's answers are made again, and after it
+#             drawn runs go through the Rust and through ours
 # make host   a C program that calls the desk library, where cc is at hand
 # make bench  the speed beside the published Rust's, where rustc is at hand
-# make acceptance  a minute of drawn runs through the published Rust and through ours, where rustc is at hand
+# make acceptance  a minute of drawn runs through the published Rust and through ours, and pairs of runs from one start,
+#                  where rustc is at hand
 # make others      the inputs on which other decoders do otherwise, through the printer and the published Rust
 # make fuzz        a minute of drawn inputs through the printer and the published Rust, where rustc is at hand
 # make valgrind    the printer and the C entries under valgrind, where it is at hand
@@ -15,7 +17,7 @@ compare:
 	tools/reference/check.sh
 
 test: compare
-	rt ci
+	tools/gate/run.sh
 
 host:
 	tools/host/run.sh

@@ -1,0 +1,32 @@
+#!/bin/sh
+# The gate, behind make test: rt ci, then a fixed part of tools/acceptance, which is skipped without rustc or the Rust's
+# source. Ends with rt ci's last line ('N passed, 0 failed') and its exit status; a difference in the part is exit status 1,
+# without that line.
+#
+#   run.sh [RUNS [SEED]]      30000 runs, seed 1
+set -eu
+
+root=$(cd "$(dirname "$0")/../.." && pwd)
+runs=${1:-30000}
+seed=${2:-1}
+
+# Not under target/, which rt ci removes.
+kept=$(mktemp -d)
+trap 'rm -rf "$kept"' EXIT
+trap 'exit 1' HUP INT TERM
+
+cd "$root"
+# A pipeline's status is tee's: rt's own goes through a file.
+{
+    status=0
+    rt ci || status=$?
+    echo "$status" > "$kept/status"
+} | tee "$kept/printed"
+status=$(cat "$kept/status")
+[ "$status" -eq 0 ] || exit "$status"
+
+if ! tools/acceptance/run.sh count "$runs" "$seed"; then
+    echo "FAILED: tools/acceptance, though rt ci passed"
+    exit 1
+fi
+tail -n 1 "$kept/printed"
