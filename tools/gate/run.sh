@@ -1,7 +1,7 @@
 #!/bin/sh
 # The gate, behind make test: rt ci, then a fixed part of tools/acceptance, which is skipped without rustc or the Rust's
-# source. Ends with rt ci's last line ('N passed, 0 failed') and its exit status; a difference in the part is exit status 1,
-# without that line.
+# source. Ends with rt ci's last line ('N passed, 0 failed') and its exit status; a difference in the part is exit status 1
+# and another last line.
 #
 #   run.sh [RUNS [SEED]]      30000 runs, seed 1
 set -eu
