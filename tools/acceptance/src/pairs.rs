@@ -19,7 +19,6 @@ struct Given {
 }
 
 /// What a run is compared by.
-#[derive(PartialEq)]
 struct Reading {
     calls: Vec<[u32; 3]>,
     bits: Vec<bool>,

@@ -52,6 +52,10 @@ impl Tally {
             accepted + refused,
             (accepted + refused) as f64 / seconds
         );
-        println!("no difference in {} runs, {seconds:.1} seconds", self.sum("bits"));
+        let (ends, pairs) = (self.sum("ended at a bit"), self.sum("pairs of runs from one start"));
+        println!(
+            "no difference in {} runs, {ends} ends at a bit and {pairs} pairs, {seconds:.1} seconds",
+            self.sum("bits")
+        );
     }
 }
