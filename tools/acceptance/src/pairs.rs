@@ -76,8 +76,8 @@ fn compared(case: &Case, first: &Reading, given: &Given, tally: &mut Tally) -> R
     let (calls, bits) = (first.calls == second.calls, first.bits == second.bits);
     let alike = first.transcript == second.transcript;
     if first.clipped || second.clipped {
-        let kind = if alike && !(calls && bits) { "clipped with one transcript of two readings" } else { "clipped" };
-        tally.add("pairs of runs from one start", kind);
+        let kind = if alike && !(calls && bits) { "one transcript of two readings" } else { "others" };
+        tally.add("pairs left out for a clipped component", kind);
         return Ok(());
     }
     if (calls && bits) != alike {

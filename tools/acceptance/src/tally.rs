@@ -9,7 +9,7 @@ pub struct Tally {
 }
 
 /// Each section's heading, in the order of printing.
-const SECTIONS: [&str; 13] = [
+const SECTIONS: [&str; 14] = [
     "bits",
     "grid",
     "accepted in mode",
@@ -22,6 +22,7 @@ const SECTIONS: [&str; 13] = [
     "damaged transcript",
     "second run of a pair",
     "pairs of runs from one start",
+    "pairs left out for a clipped component",
     "counts too short",
 ];
 
