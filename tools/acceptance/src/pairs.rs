@@ -75,12 +75,9 @@ fn compared(case: &Case, first: &Reading, given: &Given, tally: &mut Tally) -> R
     let second = reading(case, given)?;
     let (calls, bits) = (first.calls == second.calls, first.bits == second.bits);
     let alike = first.transcript == second.transcript;
-    if first.clipped || second.clipped {
-        let kind = if alike && !(calls && bits) { "one transcript of two readings" } else { "others" };
-        tally.add("pairs left out for a clipped component", kind);
-        return Ok(());
-    }
-    if (calls && bits) != alike {
+    let clipped = first.clipped || second.clipped;
+    // Equal readings have one transcript, clipped or not.
+    if (calls && bits) != alike && !(clipped && alike) {
         return Err(format!(
             "calls alike: {calls}, bits alike: {bits}, transcripts alike: {alike}: {} and {}\n{}\n{}",
             hex(&first.transcript),
@@ -88,6 +85,11 @@ fn compared(case: &Case, first: &Reading, given: &Given, tally: &mut Tally) -> R
             case.line(),
             case.line_with(&given.calls, &given.bits, given.place)
         ));
+    }
+    if clipped {
+        let kind = if alike && !(calls && bits) { "one transcript of two readings" } else { "others" };
+        tally.add("pairs left out for a clipped component", kind);
+        return Ok(());
     }
     let kind = match (calls, bits) {
         (true, true) if first.calls.is_empty() => "equal without a call",
