@@ -4,18 +4,22 @@ use mathlib.Core.Path.{_≡_, refl, ap, _∙_}
 use mathlib.Core.Bool.{Bool, true, false}
 use mathlib.Core.List.{List}
 use Prim.Native.Nat.{ℕ, zero, suc, _+_, _*_, _/_, _≤_, _<_}
-use native.Mathlib.Nat.{mul-le-mul-right, le-trans, mul-assoc, mul-left-comm, div-one}
+use native.Mathlib.Nat.{mul-le-mul-right, mul-pos, le-trans, mul-assoc, mul-left-comm, div-one}
 use native.Mathlib.Numerals.{add-one}
 use native.Mathlib.Omega.{arith}
 use lib.Dec.{lit≤, lit<}
-use lib.IntN.{ℤ, pos, negsuc}
+use lib.IntN.{ℤ, pos, negsuc, _+ℤ_}
 use lib.ListN.{length, getD}
-use Rattle.ints.specs.Z.{towardZero}
+use Rattle.ints.specs.Z.{towardZero, floorZ, modZ}
 use Rattle.picture.specs.Painted.{Inside, painted}
 use Rattle.picture.specs.Picture.{Within}
 use Rattle.picture.proofs.Laws.{macroblock-inside, painted-length}
 use Rattle.compensation.specs.Sample.{blockSample}
+use Rattle.compensation.specs.Formula.{formula}
+use Rattle.compensation.specs.Kernel.{originOf, windowBlock}
 use Rattle.compensation.specs.Block.{Whole, Span}
+use Rattle.compensation.specs.Taps as taps
+use Rattle.compensation.proofs.Taps.{placed-block}
 use Rattle.vectors.specs.Modes.{partitionWidth, partitionHeight, numMotionVectors, offsetX, offsetY}
 use Rattle.vectors.proofs.Partitions.{cut, inside, inside-units}
 use Rattle.questions.specs.declared.Call.{Call}
@@ -99,6 +103,29 @@ module _ {chroma : Bool} {call : Call} {i n x y w h : ℕ} (p : Placed chroma ca
       → pic′ ≡ movedOnce (unit chroma) cols rows ref call vs i pic
   unfolding movedOnce movedBlock
   moved ref vs pic q ex ey e f = q ∙ rw (ex, ey, e, f, p .n-is, p .x-is, p .y-is, p .w-is, p .h-is)
+
+  -- the same, by the taps that it read
+  pub moved-taps : (ref : List ℕ) (vs : List ℤ) (pic : List ℕ) {pic′ : List ℕ} {bx by px py : ℕ} → Span w h
+      → taps.Placed (n * cols) (n * rows) (pos x) (pos y) (towardZero (getD vs (2 * i) (pos 0)) (unit chroma)) (towardZero (getD vs (2 * i + 1) (pos 0)) (unit chroma)) bx by px py
+      → pic′ ≡ painted (n * cols) x y w h (windowBlock (formula px py) ref (n * cols) (n * rows) bx by) pic
+      → pic′ ≡ movedOnce (unit chroma) cols rows ref call vs i pic
+  moved-taps ref vs pic s t q = moved ref vs pic (q ∙ placed-block ref t (n * cols) x y w h pic s) refl refl refl refl
+
+-- taps of the same block
+pub placed-as : {W H W′ H′ bx by px py : ℕ} {x y vx vy x′ y′ vx′ vy′ : ℤ} → taps.Placed W H x y vx vy bx by px py → W ≡ W′ → H ≡ H′ → x ≡ x′ → y ≡ y′ → vx ≡ vx′ → vy ≡ vy′ → taps.Placed W′ H′ x′ y′ vx′ vy′ bx by px py
+placed-as p eW eH ex ey evx evy = record {
+  across-phase = p .across-phase ∙ ap (λ z. modZ z 6) evx;
+  down-phase = p .down-phase ∙ ap (λ z. modZ z 6) evy;
+  across = p .across ∙ (λ i. originOf (eW i) (ex i +ℤ floorZ (evx i) 6));
+  down = p .down ∙ (λ i. originOf (eH i) (ey i +ℤ floorZ (evy i) 6));
+}
+
+-- at most 16 samples a macroblock
+pub few : (chroma : Bool) (n m : ℕ) → n ≡ 16 / unit chroma → m ≤ 4096 → n * m ≤ 65536
+few chroma n m e h = let k : n * m ≤ 16 * m = mul-le-mul-right m (omega (arith, side chroma .1)) in omega arith
+
+pub some : (chroma : Bool) (n m : ℕ) → n ≡ 16 / unit chroma → 0 < m → 0 < n * m
+some chroma n m e h = mul-pos (omega (arith, side chroma .0)) h
 
 -- the plane keeps its length
 pub moved-length : (u cols rows : ℕ) (ref : List ℕ) (call : Call) (vs : List ℤ) (i : ℕ) (pic : List ℕ) → length (movedOnce u cols rows ref call vs i pic) ≡ length pic

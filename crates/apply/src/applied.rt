@@ -7,7 +7,8 @@ ghost use Rattle.predict.specs.Predict.{fieldOf};
 ghost use Rattle.record.specs.Record.{recordOf, skipRecord};
 ghost use Rattle.record.specs.Range.{RecordRange};
 ghost use Rattle.apply.specs.Apply.{appliedLuma, appliedChroma, appliedField};
-use crate::svq3_frame::compensate_partitions;
+use crate::svq3_frame::compensate_chroma;
+use crate::svq3_frame::compensate_luma;
 use crate::svq3_picture::apply_field;
 use crate::svq3_recon::add_chroma;
 use crate::svq3_recon::add_luma;
@@ -39,25 +40,27 @@ pub fn apply_luma(
         copy_block(pic, 16 * cols, x, y, 16, 16, reference);
     } else {
         let call = Call { column, row, mode };
-        compensate_partitions(pic, reference, vectors, cols, rows, call, false);
+        compensate_luma(pic, reference, vectors, cols, rows, call);
         add_luma(pic, levels, cols, rows, head);
     }
 }
 
-// A chroma plane, Cb 0 or Cr 1.
+// Both chroma planes.
 pub fn apply_chroma(
-    pic: &mut [u8],
-    reference: &[u8],
+    cb: &mut [u8],
+    cr: &mut [u8],
+    rcb: &[u8],
+    rcr: &[u8],
     vectors: &[i32],
     levels: &[i32],
     cols: usize,
     rows: usize,
     head: Head,
-    plane: usize,
 )
     requires { ⌜ (cols ≤ 4096) × (rows ≤ 4096) × RecordRange cols rows (recordOf head (now vectors) (now levels)) × (length (now vectors) ≡ 32) × (length (now levels) ≡ 392) ⌝ }
-    requires { ⌜ (length (now pic) ≡ chromaLength cols rows) × (length (now reference) ≡ chromaLength cols rows) × (plane < 2) ⌝ }
-    ensures { λ _. ⌜ now (pic .exit) ≡ appliedChroma plane cols rows (now (reference .entry)) (recordOf head (now (vectors .entry)) (now (levels .entry))) (now (pic .entry)) ⌝ }
+    requires { ⌜ (length (now cb) ≡ chromaLength cols rows) × (length (now rcb) ≡ chromaLength cols rows) × (length (now cr) ≡ chromaLength cols rows) × (length (now rcr) ≡ chromaLength cols rows) ⌝ }
+    ensures { λ _. ⌜ now (cb .exit) ≡ appliedChroma 0 cols rows (now (rcb .entry)) (recordOf head (now (vectors .entry)) (now (levels .entry))) (now (cb .entry)) ⌝ }
+    ensures { λ _. ⌜ now (cr .exit) ≡ appliedChroma 1 cols rows (now (rcr .entry)) (recordOf head (now (vectors .entry)) (now (levels .entry))) (now (cr .entry)) ⌝ }
 {
     let column = head.column;
     let row = head.row;
@@ -65,11 +68,13 @@ pub fn apply_chroma(
     if mode == 0 {
         let x = 8 * (column as usize);
         let y = 8 * (row as usize);
-        copy_block(pic, 8 * cols, x, y, 8, 8, reference);
+        copy_block(cb, 8 * cols, x, y, 8, 8, rcb);
+        copy_block(cr, 8 * cols, x, y, 8, 8, rcr);
     } else {
         let call = Call { column, row, mode };
-        compensate_partitions(pic, reference, vectors, cols, rows, call, true);
-        add_chroma(pic, levels, cols, rows, head, plane);
+        compensate_chroma(cb, cr, rcb, rcr, vectors, cols, rows, call);
+        add_chroma(cb, levels, cols, rows, head, 0);
+        add_chroma(cr, levels, cols, rows, head, 1);
     }
 }
 
@@ -98,8 +103,7 @@ pub fn apply_record(
     ensures { λ _. ⌜ now (marks .exit) ≡ appliedField (recordOf head (now (vectors .entry)) (now (levels .entry))) (fieldOf cols rows (now (mv .entry)) (now (marks .entry))) .marks ⌝ }
 {
     apply_luma(y, ry, vectors, levels, cols, rows, head);
-    apply_chroma(cb, rcb, vectors, levels, cols, rows, head, 0);
-    apply_chroma(cr, rcr, vectors, levels, cols, rows, head, 1);
+    apply_chroma(cb, cr, rcb, rcr, vectors, levels, cols, rows, head);
     apply_field(mv, marks, vectors, cols, rows, head);
 }
 

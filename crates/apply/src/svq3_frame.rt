@@ -1,12 +1,18 @@
 // Compensation of each partition of a macroblock, in one plane.
 ghost use mathlib.Core.Path.{_≡_};
+ghost use mathlib.Core.Bool.{true, false};
 ghost use Prim.Native.Nat.{_+_, _*_, _/_, _<_, _≤_};
+ghost use lib.IntN.{pos};
 ghost use lib.ListN.{length};
 ghost use Rattle.ints.specs.Z.{towardZero};
 ghost use Rattle.picture.specs.Picture.{Within};
+ghost use Rattle.compensation.specs.Block.{Span};
+ghost use Rattle.compensation.specs.Taps.{Placed, TapsIn};
 ghost use Rattle.vectors.specs.Modes.{partitionWidth, partitionHeight, numMotionVectors};
-ghost use Rattle.apply.specs.Apply.{unit, planeLength, partX, partY, movedOnce, movedUpTo};
-use compensation::svq3_mc::compensate_into;
+ghost use Rattle.apply.specs.Apply.{unit, planeLength, partX, partY, vectorX, vectorY, movedOnce, movedUpTo};
+use compensation::svq3_mc::Taps;
+use compensation::svq3_mc::compensate_taps;
+use compensation::svq3_mc::taps_of;
 use ints::half_toward_zero;
 use questions::Call;
 use vectors::svq3_mb::num_motion_vectors;
@@ -53,7 +59,22 @@ fn part_of(call: Call, chroma: bool, i: usize) -> Part
     }
 }
 
-// Partition i of a macroblock.
+// How partition i, which is p, reads its taps in a plane.
+fn taps_in(vectors: &[i32], cols: usize, rows: usize, chroma: bool, p: Part, i: usize) -> Taps
+    requires { ⌜ (0 < cols) × (cols ≤ 4096) × (0 < rows) × (rows ≤ 4096) × (i < 16) × (length (now vectors) ≡ 32) ⌝ }
+    requires { ⌜ Span (p .w) (p .h) × (p .x < 131072) × (p .y < 131072) ⌝ }
+    ensures { λ r. ⌜ Placed (16 / unit chroma * cols) (16 / unit chroma * rows) (pos (p .x)) (pos (p .y)) (towardZero (vectorX (now (vectors .entry)) i) (unit chroma)) (towardZero (vectorY (now (vectors .entry)) i) (unit chroma)) (r .bx) (r .by) (r .px) (r .py) ⌝ }
+    ensures { λ r. ⌜ TapsIn (16 / unit chroma * cols) (16 / unit chroma * rows) (p .w) (p .h) r ⌝ }
+{
+    let side = over(chroma, 16);
+    let width = side * cols;
+    let height = side * rows;
+    let vx = vector_over(chroma, vectors[2 * i]);
+    let vy = vector_over(chroma, vectors[2 * i + 1]);
+    taps_of(p.w, p.h, width, height, p.x as i32, p.y as i32, vx, vy)
+}
+
+// Partition i of a macroblock's luma.
 fn compensate_partition(
     pic: &mut [u8],
     reference: &[u8],
@@ -61,54 +82,85 @@ fn compensate_partition(
     cols: usize,
     rows: usize,
     call: Call,
-    chroma: bool,
     i: usize,
 )
     requires { ⌜ Within cols rows (call .column) (call .row) × (call .mode ≤ 7) × (i < numMotionVectors (call .mode)) ⌝ }
-    requires { ⌜ (length (now pic) ≡ planeLength (unit chroma) cols rows) × (length (now reference) ≡ planeLength (unit chroma) cols rows) × (length (now vectors) ≡ 32) ⌝ }
-    ensures { λ _. ⌜ now (pic .exit) ≡ movedOnce (unit chroma) cols rows (now (reference .entry)) call (now (vectors .entry)) i (now (pic .entry)) ⌝ }
+    requires { ⌜ (length (now pic) ≡ planeLength (unit false) cols rows) × (length (now reference) ≡ planeLength (unit false) cols rows) × (length (now vectors) ≡ 32) ⌝ }
+    ensures { λ _. ⌜ now (pic .exit) ≡ movedOnce (unit false) cols rows (now (reference .entry)) call (now (vectors .entry)) i (now (pic .entry)) ⌝ }
 {
-    let side = over(chroma, 16);
-    let width = side * cols;
-    let height = side * rows;
-    let vx = vector_over(chroma, vectors[2 * i]);
-    let vy = vector_over(chroma, vectors[2 * i + 1]);
-    let p = part_of(call, chroma, i);
-    compensate_into(
-        pic,
-        reference,
-        width,
-        p.x,
-        p.y,
-        p.w,
-        p.h,
-        width,
-        height,
-        p.x as i32,
-        p.y as i32,
-        vx,
-        vy,
-    );
+    let width = 16 * cols;
+    let height = 16 * rows;
+    let p = part_of(call, false, i);
+    let t = taps_in(vectors, cols, rows, false, p, i);
+    compensate_taps(pic, reference, width, p.x, p.y, p.w, p.h, width, height, t);
 }
 
-// All partitions.
-pub fn compensate_partitions(
+// All partitions of a macroblock's luma.
+pub fn compensate_luma(
     pic: &mut [u8],
     reference: &[u8],
     vectors: &[i32],
     cols: usize,
     rows: usize,
     call: Call,
-    chroma: bool,
 )
     requires { ⌜ Within cols rows (call .column) (call .row) × (call .mode ≤ 7) ⌝ }
-    requires { ⌜ (length (now pic) ≡ planeLength (unit chroma) cols rows) × (length (now reference) ≡ planeLength (unit chroma) cols rows) × (length (now vectors) ≡ 32) ⌝ }
-    ensures { λ _. ⌜ now (pic .exit) ≡ movedUpTo (numMotionVectors (call .mode)) (unit chroma) cols rows (now (reference .entry)) call (now (vectors .entry)) (now (pic .entry)) ⌝ }
+    requires { ⌜ (length (now pic) ≡ planeLength (unit false) cols rows) × (length (now reference) ≡ planeLength (unit false) cols rows) × (length (now vectors) ≡ 32) ⌝ }
+    ensures { λ _. ⌜ now (pic .exit) ≡ movedUpTo (numMotionVectors (call .mode)) (unit false) cols rows (now (reference .entry)) call (now (vectors .entry)) (now (pic .entry)) ⌝ }
 {
     let n = num_motion_vectors(call.mode);
     let mut i = 0;
     while i < n {
-        compensate_partition(pic, reference, vectors, cols, rows, call, chroma, i);
+        compensate_partition(pic, reference, vectors, cols, rows, call, i);
+        i += 1;
+    }
+}
+
+// Partition i of both chroma planes: they read the same taps.
+fn compensate_pair(
+    cb: &mut [u8],
+    cr: &mut [u8],
+    rcb: &[u8],
+    rcr: &[u8],
+    vectors: &[i32],
+    cols: usize,
+    rows: usize,
+    call: Call,
+    i: usize,
+)
+    requires { ⌜ Within cols rows (call .column) (call .row) × (call .mode ≤ 7) × (i < numMotionVectors (call .mode)) ⌝ }
+    requires { ⌜ (length (now cb) ≡ planeLength (unit true) cols rows) × (length (now rcb) ≡ planeLength (unit true) cols rows) × (length (now cr) ≡ planeLength (unit true) cols rows) × (length (now rcr) ≡ planeLength (unit true) cols rows) × (length (now vectors) ≡ 32) ⌝ }
+    ensures { λ _. ⌜ now (cb .exit) ≡ movedOnce (unit true) cols rows (now (rcb .entry)) call (now (vectors .entry)) i (now (cb .entry)) ⌝ }
+    ensures { λ _. ⌜ now (cr .exit) ≡ movedOnce (unit true) cols rows (now (rcr .entry)) call (now (vectors .entry)) i (now (cr .entry)) ⌝ }
+{
+    let width = 8 * cols;
+    let height = 8 * rows;
+    let p = part_of(call, true, i);
+    let t = taps_in(vectors, cols, rows, true, p, i);
+    compensate_taps(cb, rcb, width, p.x, p.y, p.w, p.h, width, height, t);
+    compensate_taps(cr, rcr, width, p.x, p.y, p.w, p.h, width, height, t);
+}
+
+// All partitions of both chroma planes.
+pub fn compensate_chroma(
+    cb: &mut [u8],
+    cr: &mut [u8],
+    rcb: &[u8],
+    rcr: &[u8],
+    vectors: &[i32],
+    cols: usize,
+    rows: usize,
+    call: Call,
+)
+    requires { ⌜ Within cols rows (call .column) (call .row) × (call .mode ≤ 7) ⌝ }
+    requires { ⌜ (length (now cb) ≡ planeLength (unit true) cols rows) × (length (now rcb) ≡ planeLength (unit true) cols rows) × (length (now cr) ≡ planeLength (unit true) cols rows) × (length (now rcr) ≡ planeLength (unit true) cols rows) × (length (now vectors) ≡ 32) ⌝ }
+    ensures { λ _. ⌜ now (cb .exit) ≡ movedUpTo (numMotionVectors (call .mode)) (unit true) cols rows (now (rcb .entry)) call (now (vectors .entry)) (now (cb .entry)) ⌝ }
+    ensures { λ _. ⌜ now (cr .exit) ≡ movedUpTo (numMotionVectors (call .mode)) (unit true) cols rows (now (rcr .entry)) call (now (vectors .entry)) (now (cr .entry)) ⌝ }
+{
+    let n = num_motion_vectors(call.mode);
+    let mut i = 0;
+    while i < n {
+        compensate_pair(cb, cr, rcb, rcr, vectors, cols, rows, call, i);
         i += 1;
     }
 }

@@ -17,8 +17,8 @@ copy-block-requires c κs =
     let g = place-within (s .pre .0 .2) (s .pre .0 .0) (s .pre .0 .1) in
     (plane-inside 16 (lit< tt) g (s .pre .1 .0), (lit≤ tt, plane-inside 16 (lit< tt) g (s .pre .1 .1)))
 
-compensate-partitions-requires : tie.Need-compensate-partitions-requires
-compensate-partitions-requires c κs =
+compensate-luma-requires : tie.Need-compensate-luma-requires
+compensate-luma-requires c κs =
     let s = c .before .before .before .before in
     ((place-within (s .pre .0 .2) (s .pre .0 .0) (s .pre .0 .1), s .pre .0 .2 .mode), (s .pre .1 .0, s .pre .1 .1, s .pre .0 .3))
 
@@ -26,7 +26,7 @@ add-luma-requires : tie.Need-add-luma-requires
 add-luma-requires c κs =
     let s = c .before .before .before .before .before .before .before .before in
     let k = coded-range (s .pre .0 .2) (c .before .before .before .before .before .if1 .left) in
-    (place-within (s .pre .0 .2) (s .pre .0 .0) (s .pre .0 .1), (c .before .before .before .compensate-partitions .kept .0 ∙ s .pre .1 .0, s .pre .0 .4, k .pattern, k .quantiser))
+    (place-within (s .pre .0 .2) (s .pre .0 .0) (s .pre .0 .1), (c .before .before .before .compensate-luma .kept .0 ∙ s .pre .1 .0, s .pre .0 .4, k .pattern, k .quantiser))
 
 returns : tie.Need-returns
 returns c =
@@ -37,7 +37,7 @@ returns-2 : tie.Need-returns-2
 returns-2 c =
     let a = c .before .before .before .before .before .before .before .before .before .before .before .args in
     c .before .before .add-luma .ensures
-    ∙ ap (λ (p : List ℕ). lumaUpTo 16 (a .cols) (a .head) (a .levels .now) p) (c .before .before .before .before .before .before .compensate-partitions .ensures)
+    ∙ ap (λ (p : List ℕ). lumaUpTo 16 (a .cols) (a .head) (a .levels .now) p) (c .before .before .before .before .before .before .compensate-luma .ensures)
     ∙ sym (coded-luma (a .cols) (a .rows) (a .reference .now) (recordOf (a .head) (a .vectors .now) (a .levels .now)) (a .pic .now) (c .before .before .before .before .before .before .before .before .if1 .left))
 
 pub apply-luma-spec : {M : Type 1} → statement M
@@ -50,9 +50,9 @@ apply-luma-spec =
     (λ c. search needs)
     (λ c. search needs)
     copy-block-requires
-    compensate-partitions-requires
+    compensate-luma-requires
     add-luma-requires
     (λ c. c .before .before .copy-block .kept .0)
     returns
-    (λ c. c .before .before .add-luma .kept .0 ∙ c .before .before .before .before .before .before .compensate-partitions .kept .0)
+    (λ c. c .before .before .add-luma .kept .0 ∙ c .before .before .before .before .before .before .compensate-luma .kept .0)
     returns-2)
