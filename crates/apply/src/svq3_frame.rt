@@ -158,9 +158,9 @@ pub fn compensate_chroma(
     ensures { λ _. ⌜ now (cr .exit) ≡ movedUpTo (numMotionVectors (call .mode)) (unit true) cols rows (now (rcr .entry)) call (now (vectors .entry)) (now (cr .entry)) ⌝ }
 {
     let n = num_motion_vectors(call.mode);
-    let mut i = 0;
-    while i < n {
-        compensate_pair(cb, cr, rcb, rcr, vectors, cols, rows, call, i);
-        i += 1;
+    let mut k = 0;
+    while k < n {
+        compensate_pair(cb, cr, rcb, rcr, vectors, cols, rows, call, k);
+        k += 1;
     }
 }
