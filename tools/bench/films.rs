@@ -75,36 +75,39 @@ fn measured(film: &Film) -> Row {
     let header = access_header(run.columns, run.rows, run.half, run.third);
     let start = Start::of(run, room(film));
     let (mut theirs, mut ours, mut again, mut copied) = (Vec::new(), Vec::new(), Vec::new(), Vec::new());
+    // Each side keeps its buffers from round to round, as a player does from picture to picture.
+    let mut access = Access::new(&header, run.reference.as_ref()).expect("a grid");
+    access.start(run.delta_enable, run.quantiser, run.picture.clone(), run.vectors.clone(), run.marks.clone());
+    let (mut state, mut second, mut planes) = (start.clone(), start.clone(), start.picture.clone());
     for _ in 0..ROUNDS {
-        let mut access = Access::new(&header, run.reference.as_ref()).expect("a grid");
-        access.start(run.delta_enable, run.quantiser, run.picture.clone(), run.vectors.clone(), run.marks.clone());
+        access.start_again(run.quantiser, &run.picture, &run.vectors, &run.marks);
         let mut reader = BitReader::new(&run.bits);
         let begun = Instant::now();
         for call in &run.calls {
             access.decode_inter_mb(&mut reader, call.column, call.row, call.mode).expect("a sound film");
         }
         theirs.push(begun.elapsed().as_nanos() as f64 / macroblocks);
-        let left = left_of(&access);
 
-        let mut state = start.clone();
+        state.set_to(&start);
         let begun = Instant::now();
         let told = state.run(list, &run.bits, run.place, COUNTS);
         ours.push(begun.elapsed().as_nanos() as f64 / macroblocks);
         assert_eq!((told.code, told.counts[0] as usize), (0, run.calls.len()), "the run is refused");
         assert_eq!(told.counts[1] as usize, reader.bits_consumed(), "bits consumed differ");
+        let left = left_of(&access);
         let quantiser = told.counts[3] as u32;
         assert!((state.picture.concat(), state.mv.clone(), state.marks.clone(), quantiser) == left, "the run differs");
 
         let transcript = &state.transcript[..told.counts[2] as usize];
-        let mut second = start.clone();
+        second.set_to(&start);
         let begun = Instant::now();
         let told = second.replay(transcript, COUNTS);
         again.push(begun.elapsed().as_nanos() as f64 / macroblocks);
         assert_eq!((told.code, told.counts[0] as usize), (0, run.calls.len()), "the replay is refused");
         let quantiser = told.counts[1] as u32;
-        assert!((second.picture.concat(), second.mv, second.marks, quantiser) == left, "the replay differs");
+        let replayed = (second.picture.concat(), second.mv.clone(), second.marks.clone(), quantiser);
+        assert!(replayed == left, "the replay differs");
 
-        let mut planes = start.picture.clone();
         let begun = Instant::now();
         for (plane, reference) in planes.iter_mut().zip(&start.reference) {
             black_box(&mut *plane).copy_from_slice(black_box(reference));

@@ -47,6 +47,16 @@ impl<'a> Access<'a> {
         self.0.block_map = marks;
     }
 
+    /// The same in the buffers that it has; they are of these lengths.
+    pub fn start_again(&mut self, quantiser: u32, picture: &Svq3Picture, vectors: &[(i32, i32)], marks: &[u8]) {
+        self.0.qp = quantiser;
+        self.0.picture.luma_mut().copy_from_slice(picture.luma());
+        self.0.picture.cb_mut().copy_from_slice(picture.cb());
+        self.0.picture.cr_mut().copy_from_slice(picture.cr());
+        self.0.mv.copy_from_slice(vectors);
+        self.0.block_map.copy_from_slice(marks);
+    }
+
     pub fn decode_inter_mb(
         &mut self,
         br: &mut BitReader<'_>,
