@@ -88,7 +88,7 @@ fn measured(film: &Film) -> Row {
         }
         theirs.push(begun.elapsed().as_nanos() as f64 / macroblocks);
 
-        state.set_to(&start);
+        set_to(&mut state, &start);
         let begun = Instant::now();
         let told = state.run(list, &run.bits, run.place, COUNTS);
         ours.push(begun.elapsed().as_nanos() as f64 / macroblocks);
@@ -99,7 +99,7 @@ fn measured(film: &Film) -> Row {
         assert!((state.picture.concat(), state.mv.clone(), state.marks.clone(), quantiser) == left, "the run differs");
 
         let transcript = &state.transcript[..told.counts[2] as usize];
-        second.set_to(&start);
+        set_to(&mut second, &start);
         let begun = Instant::now();
         let told = second.replay(transcript, COUNTS);
         again.push(begun.elapsed().as_nanos() as f64 / macroblocks);
@@ -115,6 +115,16 @@ fn measured(film: &Film) -> Row {
         copied.push(begun.elapsed().as_nanos() as f64 / macroblocks);
     }
     Row { reference: median(theirs), run: median(ours), replay: median(again), copy: median(copied) }
+}
+
+/// One state as another of the same lengths, transcript apart, in the buffers that it has.
+fn set_to(state: &mut Start, other: &Start) {
+    state.quantiser = other.quantiser;
+    for (plane, from) in state.picture.iter_mut().zip(&other.picture) {
+        plane.copy_from_slice(from);
+    }
+    state.mv.copy_from_slice(&other.mv);
+    state.marks.copy_from_slice(&other.marks);
 }
 
 /// Transcript bytes for a film's records and for the longest record behind them: each call asks for that much.

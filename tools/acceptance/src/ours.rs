@@ -72,16 +72,6 @@ impl Start {
         }
     }
 
-    /// As another state of the same lengths, transcript apart, in the buffers that this one has.
-    pub fn set_to(&mut self, other: &Self) {
-        self.quantiser = other.quantiser;
-        for (plane, from) in self.picture.iter_mut().zip(&other.picture) {
-            plane.copy_from_slice(from);
-        }
-        self.mv.copy_from_slice(&other.mv);
-        self.marks.copy_from_slice(&other.marks);
-    }
-
     #[rustfmt::skip]
     pub fn macroblock(&mut self, call: [u32; 3], bits: &[u8], place: u64, fill: u64, counts: usize) -> Told {
         let mut counts = vec![BEFORE; counts];
