@@ -3,6 +3,7 @@ pub mod BitAt
 pub mod CodeStep
 pub mod Unique
 pub mod CodeStarts
+pub mod Windows
 pub mod SignedCode
 pub mod Answers
 pub mod Examples

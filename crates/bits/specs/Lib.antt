@@ -1,4 +1,5 @@
 pub mod Bits
 pub mod Code
 pub mod Starts
+pub mod Window
 pub mod Signed

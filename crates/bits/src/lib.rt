@@ -3,3 +3,4 @@ pub mod bitreader;
 pub mod code_starts;
 pub mod svq3;
 pub mod svq3_mv;
+pub mod window;

@@ -4,10 +4,8 @@ ghost use Prim.Native.Nat.{_+_, _*_, _≤_, _<_, _^_};
 ghost use lib.ListN.{length, drop};
 ghost use Rattle.bits.specs.Bits.{bitList};
 ghost use Rattle.bits.specs.Code.{codeFrom, code, codeAnswer};
-ghost use Rattle.bits.specs.Starts.{Short};
 use crate::bitreader::bit_at;
 use crate::bitreader::byte_at;
-use crate::code_starts::CodeStart;
 use crate::code_starts::code_start;
 use refusal::Refusal;
 
@@ -51,20 +49,6 @@ fn read_on(bits: &[u8], at: usize, head: u32, spare: u32) -> CodeAnswer
         room -= 1;
         p = d + 1;
     }
-}
-
-// A code of at most seven bits at a place. Where none is found, `before` is 8; in the last byte none is sought.
-pub fn short_code(bits: &[u8], at: usize) -> CodeStart
-    requires { ⌜ length (now bits) < 2 ^ 61 ⌝ }
-    ensures { λ r. ⌜ Short (drop at (bitList (now (bits .entry)))) (r .before) (r .head) ⌝ }
-{
-    if bits.len() <= at / 8 + 1 {
-        return CodeStart {
-            before: 8,
-            head: 16,
-        };
-    }
-    code_start(byte_at(bits, at))
 }
 
 // A code of at most seven bits is found in the eight bits at its place, a longer one is read from the ninth bit on.

@@ -5,6 +5,7 @@ pub mod Entries
 pub mod Books
 pub mod Rasters
 pub mod Steps
+pub mod Shorts
 pub mod Stores
 pub mod Gots
 pub mod Froms

@@ -179,8 +179,8 @@ module _ {book : ResidualBook} {start at : ℕ} {s : List Bool} {position p : �
         go : Answered p (levelRun book (drop p s)) (Pair l r) q → Reading book start at s (position + r + 1) q (set held place x)
         go a = rw (e, f, a .moved) (goes-on R (a .taken) l r (a .is) h)
 
-  pub end-answer : (out₀ out after : List ℤ) (base count q : ℕ) → step.End q ≡ stepAnswer p (levelRun book (drop p s)) → out ≡ out₀ → count ≡ positions book → after ≡ sets out base (take count held) → Decoded at (block book start (drop at s)) out₀ base (End q) after
-  end-answer out₀ out after base count q t o c e = go (end-told p (levelRun book (drop p s)) q t)
+  pub end-answer : (out₀ out after : List ℤ) (base q : ℕ) → step.End q ≡ stepAnswer p (levelRun book (drop p s)) → out ≡ out₀ → after ≡ sets out base (take (positions book) held) → Decoded at (block book start (drop at s)) out₀ base (End q) after
+  end-answer out₀ out after base q t o e = go (end-told p (levelRun book (drop p s)) q t)
     where
       go : Answered p (levelRun book (drop p s)) said.End q → Decoded at (block book start (drop at s)) out₀ base (End q) after
-      go a = rw (ends R (a .taken) (a .is)) (record { answers = ap End (omega (arith, a .moved, R .moved)); leaves = e ∙ rw (o, c) })
+      go a = rw (ends R (a .taken) (a .is)) (record { answers = ap End (omega (arith, a .moved, R .moved)); leaves = e ∙ rw o })

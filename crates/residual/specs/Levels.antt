@@ -11,6 +11,7 @@ use lib.Seq.{sets}
 use Rattle.refusal.specs.Got.{Got, got, refused, andThen, mapGot}
 use Rattle.refusal.specs.declared.Refusal.the-variants.{LevelPosition}
 use Rattle.bits.specs.Code.{code, codeBits, CodeRange}
+use Rattle.bits.specs.Window.{Shows}
 use Rattle.residual.specs.Book.{positions, resolve, codeOfLevel}
 use Rattle.residual.specs.Scan.{raster, unraster}
 use Rattle.residual.specs.declared.svq3_coeff.ResidualBook.{ResidualBook}
@@ -81,6 +82,11 @@ abbrev pub stepAnswer : ℕ → Got LevelRun → Step
 stepAnswer at (got said.End n) = step.End (at + n)
 stepAnswer at (got (said.Pair level run) n) = step.Level level run (at + n)
 stepAnswer at (refused r) = step.Refused r
+
+-- a step at a place of the bits s, and a word that shows the bits behind its code, where that is a level
+pub record Stepped (book : ResidualBook) (s : List Bool) (at : ℕ) (answer : Step) (word left : ℕ) : Type 0 where
+  pub says : answer ≡ stepAnswer at (levelRun book (drop at s))
+  pub shows : (level : ℤ) (run next : ℕ) → answer ≡ step.Level level run next → Shows word left (drop next s)
 
 abbrev pub listAnswer : ℕ → Got (List ℤ) → ListAnswer
 listAnswer at (got bs n) = End (at + n)

@@ -1,17 +1,21 @@
 // The (level, run) code books, and the lists of levels that their codes make. The books and lists are those of specs/Book.antt and specs/Levels.antt.
 ghost use mathlib.Core.Path.{_≡_};
 ghost use Prim.Native.Nat.{_+_, _≤_, _<_, _^_};
-ghost use lib.ListN.{length, take, drop};
+ghost use lib.ListN.{length, getD, take, drop};
 ghost use lib.Seq.{sets};
 ghost use Rattle.bits.specs.Bits.{bitList};
-ghost use Rattle.residual.specs.Book.{positions, half, levelOf, level, run, resolve};
-ghost use Rattle.residual.specs.Levels.{levelRun, block, stepAnswer, Decoded};
+ghost use Rattle.bits.specs.Window.{Shows};
+ghost use Rattle.residual.specs.Book.{positions, half, magnitudes, runs, levelOf, level, run, resolve};
+ghost use Rattle.residual.specs.Levels.{levelRun, block, stepAnswer, Stepped, Decoded};
 use crate::digits::digit;
 use crate::svq3_scan::place_of;
 use crate::svq3_scan::positions_of;
 use bits::svq3::CodeAnswer;
 use bits::svq3::read_universal_code;
-use bits::svq3::short_code;
+use bits::window::Window;
+use bits::window::fill;
+use bits::window::pass;
+use bits::window::short_code;
 use refusal::Refusal;
 
 // The inter macroblock's two books.
@@ -38,6 +42,11 @@ const NORMAL_SCAN_RUNS: u64 = 0x0987_6210_5430_2100;
 const CHROMA_DC_MAGNITUDES: u64 = 0x0000_2234_1123_1210;
 
 const CHROMA_DC_RUNS: u64 = 0x0000_3210_3210_1000;
+
+// Of the codes of at most seven bits, a byte each: magnitude in the lower digit, run in the upper.
+const NORMAL_SCAN_SHORT: u64 = 0x5141_3102_2111_0100;
+
+const CHROMA_DC_SHORT: u64 = 0x3121_1203_1102_0100;
 
 // The first code that is no entry of the tables.
 const NORMAL_SCAN_ESCAPE: u32 = 31;
@@ -121,30 +130,75 @@ pub enum ListAnswer {
     Refused(Refusal),
 }
 
-fn next_level(bits: &[u8], at: usize, book: ResidualBook) -> Step
+// The next code of a list, read from the bytes.
+fn read_level(bits: &[u8], at: usize, book: ResidualBook) -> Step
     requires { ⌜ length (now bits) < 2 ^ 61 ⌝ }
     ensures { λ r. ⌜ r ≡ stepAnswer at (levelRun book (drop at (bitList (now (bits .entry))))) ⌝ }
 {
-    let start = short_code(bits, at);
-    let before = start.before;
-    let head = start.head;
-    let mut code: u32 = 0;
-    let mut next = at;
-    if before < 8 {
-        code = head - 1;
-        next = at + before as usize + 1;
-    } else {
-        match read_universal_code(bits, at) {
-            CodeAnswer::Code(k, p) => {
-                code = k;
-                next = p;
-            }
-            CodeAnswer::Refused(r) => return Step::Refused(r),
-        }
+    match read_universal_code(bits, at) {
+        CodeAnswer::Code(code, next) => match resolve_level_run(book, code) {
+            LevelRun::Pair(level, run) => Step::Level(level, run, next),
+            LevelRun::End => Step::End(next),
+        },
+        CodeAnswer::Refused(r) => Step::Refused(r),
     }
-    match resolve_level_run(book, code) {
-        LevelRun::Pair(level, run) => Step::Level(level, run, next),
-        LevelRun::End => Step::End(next),
+}
+
+pub struct ShortPair {
+    pub magnitude: u32,
+    pub run: u32,
+}
+
+// What both books' tables say at half of a code of at most seven bits.
+fn short_pair(book: ResidualBook, half: u32) -> ShortPair
+    requires { ⌜ half < 8 ⌝ }
+    ensures { λ r. ⌜ (r .magnitude ≡ getD (magnitudes book) half 0) × (r .run ≡ getD (runs book) half 0) × (r .magnitude < 8) ⌝ }
+{
+    let pairs = match book {
+        ResidualBook::NormalScan => NORMAL_SCAN_SHORT,
+        ResidualBook::ChromaDc => CHROMA_DC_SHORT,
+    };
+    let pair = pairs >> (8 * half);
+    ShortPair {
+        magnitude: (pair % 8) as u32,
+        run: (pair / 16 % 8) as u32,
+    }
+}
+
+// A step, and the window of the bits behind it.
+pub struct Taken {
+    pub step: Step,
+    pub window: Window,
+}
+
+// The next code of a list: a code of at most seven bits is taken from the window, any other is read from the bytes.
+fn next_level(bits: &[u8], at: usize, book: ResidualBook, window: Window) -> Taken
+    requires { ⌜ (length (now bits) < 2 ^ 61) × Shows (window .word) (window .left) (drop at (bitList (now bits))) ⌝ }
+    ensures { λ r. ⌜ Stepped book (bitList (now (bits .entry))) at (r .step) (r .window .word) (r .window .left) ⌝ }
+{
+    let filled = fill(bits, at, window);
+    let short = short_code(filled);
+    let size = short.size;
+    let half = short.half;
+    if size == 9 {
+        let step = read_level(bits, at, book);
+        return Taken {
+            step,
+            window: Window { word: 0, left: 0 },
+        };
+    }
+    let next = at + size as usize;
+    if size == 1 {
+        return Taken {
+            step: Step::End(next),
+            window: filled,
+        };
+    }
+    let pair = short_pair(book, half);
+    let level = level_of(2 * half + short.last - 1, pair.magnitude);
+    Taken {
+        step: Step::Level(level, pair.run, next),
+        window: pass(filled, size),
     }
 }
 
@@ -157,6 +211,17 @@ fn store_levels(out: &mut [i32], base: usize, levels: &[i32], count: usize)
     while i < count {
         out[base + i] = levels[i];
         i += 1;
+    }
+}
+
+// The levels of a list, with a count that the compiler knows.
+fn store_list(out: &mut [i32], base: usize, levels: &[i32; 16], book: ResidualBook)
+    requires { ⌜ base + positions book ≤ length (now out) ⌝ }
+    ensures { λ _. ⌜ now (out .exit) ≡ sets (now (out .entry)) base (take (positions book) (now (levels .entry))) ⌝ }
+{
+    match book {
+        ResidualBook::NormalScan => store_levels(out, base, levels, 16),
+        ResidualBook::ChromaDc => store_levels(out, base, levels, 4),
     }
 }
 
@@ -176,8 +241,12 @@ fn decode_list(
     let mut levels = [0i32; 16];
     let mut position = start;
     let mut p = at;
+    let mut word: u64 = 0;
+    let mut left: u32 = 0;
     loop {
-        match next_level(bits, p, book) {
+        let taken = next_level(bits, p, book, Window { word, left });
+        let step = taken.step;
+        match step {
             Step::Level(level, run, next) => {
                 let reached = position + run;
                 if count <= reached {
@@ -187,9 +256,11 @@ fn decode_list(
                 levels[place] = level;
                 position = reached + 1;
                 p = next;
+                word = taken.window.word;
+                left = taken.window.left;
             }
             Step::End(next) => {
-                store_levels(out, base, &levels, count as usize);
+                store_list(out, base, &levels, book);
                 return ListAnswer::End(next);
             }
             Step::Refused(r) => return ListAnswer::Refused(r),

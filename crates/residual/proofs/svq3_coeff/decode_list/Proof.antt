@@ -1,14 +1,16 @@
--- `residual::svq3_coeff::decode_list`: each turn keeps `Reading`, and each way out is one of its laws.
+-- `residual::svq3_coeff::decode_list`: each turn keeps `Reading` and a window of the bits at its place, and each way out is one of the laws of `Reading`.
 use mathlib.Core.Path.{_≡_, refl, sym, ap, _∙_}
 use Prim.Native.Nat.{_+_, _-_, _≤_, _<_}
 use Rattle.residual.specs.declared.svq3_coeff.ResidualBook.{ResidualBook}
 use Rattle.residual.specs.declared.svq3_coeff.ResidualBook.the-variants.{NormalScan, ChromaDc}
 use native.Mathlib.Omega.{arith}
 use borrow.Author.Needs.{needs}
-use lib.ListN.{length}
+use lib.ListN.{length, drop}
 use mir.Syntax.{w32}
 use mir.Val.{toZ, ofZ}
 use Rattle.bits.specs.Bits.{bitList}
+use Rattle.bits.specs.Window.{Shows}
+use Rattle.bits.proofs.Windows.{shows-none}
 use Rattle.residual.specs.Book.{positions}
 use Rattle.residual.proofs.Reading.{Reading, begins, run-told, next-reading, refused-answer, past-answer, end-answer}
 use Rattle.residual.proofs.Rasters.{position-back}
@@ -16,11 +18,11 @@ use Rattle.residual.proofs.svq3_coeff.decode_list.Statement.{statement}
 use Rattle.residual.proofs.svq3_coeff.decode_list.Tie as tie
 
 abbrev Inv-loop : tie.InvT-loop
-Inv-loop out₀ base bits at book start count levels₀ position₀ p₀ out levels position p =
-    Reading book start at (bitList bits) position p levels × (out ≡ out₀) × (count ≡ positions book)
+Inv-loop out₀ base bits at book start count levels₀ position₀ p₀ word₀ left₀ out levels position p word left =
+    Reading book start at (bitList bits) position p levels × (out ≡ out₀) × (count ≡ positions book) × Shows word left (drop p (bitList bits))
 
 abbrev μ-loop : tie.MeasureT-loop
-μ-loop out₀ base bits at book start count levels₀ position₀ p₀ out levels position p = positions book - position
+μ-loop out₀ base bits at book start count levels₀ position₀ p₀ word₀ left₀ out levels position p word left = positions book - position
 
 few : (book : ResidualBook) → positions book ≤ 16
 few NormalScan = omega arith
@@ -29,15 +31,15 @@ few ChromaDc = omega arith
 loop-holds : tie.Need-loop-holds Inv-loop μ-loop
 loop-holds c =
     let a = c .before .before .args in
-    (begins (a .book) (a .start) (a .at) (bitList (a .bits .now)) (c .before .before .pre .1), refl, c .positions-of .ensures)
+    (begins (a .book) (a .start) (a .at) (bitList (a .bits .now)) (c .before .before .pre .1), refl, c .positions-of .ensures, shows-none 0 (drop (a .at) (bitList (a .bits .now))))
 
 next-level-requires : tie.Need-next-level-requires Inv-loop μ-loop
-next-level-requires c κs = c .before .before .before .pre .2
+next-level-requires c κs = (c .before .before .before .pre .2, c .loop .inv .3)
 
 add-reached : tie.Need-add-reached Inv-loop μ-loop
 add-reached c =
-    let l = c .before .level .given in
-    let r = run-told (c .before .before .before .before .loop .inv .0) (l .0 .0) (l .0 .1 .0) (l .0 .1 .1 .0) (sym (l .1) ∙ c .before .before .before .next-level .ensures) in
+    let l = c .before .step .given in
+    let r = run-told (c .before .before .before .before .loop .inv .0) (l .0 .0) (l .0 .1 .0) (l .0 .1 .1 .0) (sym (l .1) ∙ c .before .before .before .next-level .ensures .says) in
     omega (arith, r, few (c .before .before .before .before .before .before .before .args .book), c .before .before .before .before .loop .inv .0 .within)
 
 same-length : tie.Need-same-length Inv-loop μ-loop
@@ -45,15 +47,15 @@ same-length c = ap length (c .before .before .before .before .before .loop .inv 
 
 returns : tie.Need-returns Inv-loop μ-loop
 returns c =
-    let l = c .before .before .level .given in
-    past-answer (c .before .before .before .before .before .loop .inv .0) (l .0 .0) (l .0 .1 .0) (l .0 .1 .1 .0) (sym (l .1) ∙ c .before .before .before .before .next-level .ensures) _ _ _ (omega (arith, c .if1 .taken, c .before .before .before .before .before .loop .inv .2)) (c .before .before .before .before .before .loop .inv .1)
+    let l = c .before .before .step .given in
+    past-answer (c .before .before .before .before .before .loop .inv .0) (l .0 .0) (l .0 .1 .0) (l .0 .1 .1 .0) (sym (l .1) ∙ c .before .before .before .before .next-level .ensures .says) _ _ _ (omega (arith, c .if1 .taken, c .before .before .before .before .before .loop .inv .2)) (c .before .before .before .before .before .loop .inv .1)
 
 place-of-requires : tie.Need-place-of-requires Inv-loop μ-loop
 place-of-requires c κs = omega (arith, c .if1 .left, c .before .before .before .before .before .loop .inv .2)
 
 placed : (c : tie.After-place-of Inv-loop μ-loop) → c .place-of .result < 16
 placed c =
-    let b = position-back (c .before .before .before .before .before .before .before .before .before .args .book) (c .before .before .before .before .before .before .loop .position + c .before .before .before .level .given .0 .1 .0) (omega (arith, c .before .if1 .left, c .before .before .before .before .before .before .loop .inv .2)) .1 in
+    let b = position-back (c .before .before .before .before .before .before .before .before .before .args .book) (c .before .before .before .before .before .before .loop .position + c .before .before .before .step .given .0 .1 .0) (omega (arith, c .before .if1 .left, c .before .before .before .before .before .before .loop .inv .2)) .1 in
     omega (arith, c .place-of .ensures, few (c .before .before .before .before .before .before .before .before .before .args .book))
 
 mul-levels : tie.Need-mul-levels Inv-loop μ-loop
@@ -70,33 +72,28 @@ loop-less c = omega (arith, c .before .if1 .left, c .before .before .before .bef
 
 loop-again : tie.Need-loop-again Inv-loop μ-loop
 loop-again c =
-    let l = c .before .before .before .level .given in
+    let l = c .before .before .before .step .given in
     let z : toZ w32 (ofZ w32 (l .0 .0)) ≡ l .0 .0 = search needs in
-    (next-reading (c .before .before .before .before .before .before .loop .inv .0) (l .0 .0) (l .0 .1 .0) (l .0 .1 .1 .0) (sym (l .1) ∙ c .before .before .before .before .before .next-level .ensures) _ _ (omega (arith, c .before .if1 .left, c .before .before .before .before .before .before .loop .inv .2)) (c .place-of .ensures) z, c .before .before .before .before .before .before .loop .inv .1, c .before .before .before .before .before .before .loop .inv .2)
+    (next-reading (c .before .before .before .before .before .before .loop .inv .0) (l .0 .0) (l .0 .1 .0) (l .0 .1 .1 .0) (sym (l .1) ∙ c .before .before .before .before .before .next-level .ensures .says) _ _ (omega (arith, c .before .if1 .left, c .before .before .before .before .before .before .loop .inv .2)) (c .place-of .ensures) z, c .before .before .before .before .before .before .loop .inv .1, c .before .before .before .before .before .before .loop .inv .2, c .before .before .before .before .before .next-level .ensures .shows (l .0 .0) (l .0 .1 .0) (l .0 .1 .1 .0) (l .1))
 
-slice-aggregate-store-levels : tie.Need-slice-aggregate-store-levels Inv-loop μ-loop
-slice-aggregate-store-levels c = sym (c .before .before .before .before .before .before .loop .inv .0 .whole)
-
-cast-store-levels : tie.Need-cast-store-levels Inv-loop μ-loop
-cast-store-levels c = omega (arith, c .before .before .before .before .before .before .loop .inv .2, few (c .before .before .before .before .before .before .before .before .before .args .book))
-
-store-levels-requires : tie.Need-store-levels-requires Inv-loop μ-loop
-store-levels-requires c κs =
-    let i = c .before .before .before .before .before .before .loop .inv in
-    (omega (arith, i .2, i .0 .whole, few (c .before .before .before .before .before .before .before .before .before .args .book)), omega (arith, i .2, ap length (i .1), c .before .before .before .before .before .before .before .before .before .pre .0))
+store-list-requires : tie.Need-store-list-requires Inv-loop μ-loop
+store-list-requires c κs =
+    let l = c .before .before .before .before .before .before in
+    rw (l .loop .inv .1) (l .before .before .before .pre .0)
 
 same-length-2 : tie.Need-same-length-2 Inv-loop μ-loop
-same-length-2 c = c .before .store-levels .kept .0 ∙ ap length (c .before .before .before .before .before .before .before .before .loop .inv .1)
+same-length-2 c = c .before .store-list .kept .0 ∙ ap length (c .before .before .before .before .before .before .before .before .loop .inv .1)
 
 returns-2 : tie.Need-returns-2 Inv-loop μ-loop
 returns-2 c =
-    end-answer (c .before .before .before .before .before .before .before .before .loop .inv .0) _ _ _ _ _ _ (sym (c .before .before .before .before .before .next .given .1) ∙ c .before .before .before .before .before .before .before .next-level .ensures) (c .before .before .before .before .before .before .before .before .loop .inv .1) (c .before .before .before .before .before .before .before .before .loop .inv .2) (c .before .store-levels .ensures)
+    let l = c .before .before .before .before .before .before .before .before in
+    end-answer (l .loop .inv .0) _ _ _ _ _ (sym (c .before .before .before .before .before .step2 .given .1) ∙ c .before .before .before .before .before .before .before .next-level .ensures .says) (l .loop .inv .1) (c .before .store-list .ensures)
 
 same-length-3 : tie.Need-same-length-3 Inv-loop μ-loop
 same-length-3 c = ap length (c .before .before .before .before .loop .inv .1)
 
 returns-3 : tie.Need-returns-3 Inv-loop μ-loop
-returns-3 c = refused-answer (c .before .before .before .before .loop .inv .0) _ _ _ _ (sym (c .before .r .given .1) ∙ c .before .before .before .next-level .ensures) (c .before .before .before .before .loop .inv .1)
+returns-3 c = refused-answer (c .before .before .before .before .loop .inv .0) _ _ _ _ (sym (c .before .step3 .given .1) ∙ c .before .before .before .next-level .ensures .says) (c .before .before .before .before .loop .inv .1)
 
 pub decode-list-spec : {M : Type 1} → statement M
 decode-list-spec =
@@ -118,9 +115,7 @@ decode-list-spec =
     loop-less
     loop-again
     (λ c. search needs)
-    slice-aggregate-store-levels
-    cast-store-levels
-    store-levels-requires
+    store-list-requires
     same-length-2
     returns-2
     (λ c. search needs)

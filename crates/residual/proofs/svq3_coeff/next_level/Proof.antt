@@ -1,76 +1,96 @@
--- `residual::svq3_coeff::next_level` answers `levelRun` at its place: the code there, found short or read, taken through the book.
-use mathlib.Core.Path.{_≡_, sym, ap, _∙_}
-use mathlib.Core.Logic.{⊎-elim}
+-- `residual::svq3_coeff::next_level`: a short code is found in the window, any other is read.
+use mathlib.Core.Path.{_≡_, ap, _∙_}
+use Prim.Native.Nat.{_<_}
 use native.Mathlib.Omega.{arith}
 use borrow.Author.Needs.{needs}
-use lib.IntN.{ℤ}
 use lib.ListN.{drop}
-use mir.Syntax.{w32}
-use mir.Val.{toZ, ofZ}
 use Rattle.bits.specs.Bits.{bitList}
-use Rattle.bits.specs.Code.{code, codeAnswer}
-use Rattle.bits.specs.declared.svq3.CodeAnswer.the-variants.{Code}
-use Rattle.bits.proofs.CodeStarts.{at-once, inside}
-use Rattle.residual.specs.declared.svq3_coeff.Step.the-variants.{Level}
-use Rattle.residual.proofs.Steps.{step-level, step-end, step-refused}
+use Rattle.bits.specs.Window.{ShortAt}
+use Rattle.bits.proofs.CodeStarts.{inside}
+use Rattle.residual.specs.Book.{levelOf}
+use Rattle.residual.proofs.Shorts.{read-stepped, end-stepped, level-stepped}
 use Rattle.residual.proofs.svq3_coeff.next_level.Statement.{statement}
 use Rattle.residual.proofs.svq3_coeff.next_level.Tie as tie
 
-add-next : tie.Need-add-next
-add-next c =
+-- what the window says of the code at the place
+abbrev Short : tie.After-short-code → Type 0
+Short c =
     let a = c .before .before .before .args in
-    let s = c .before .short-code in
-    omega (arith, inside (a .bits .now) (a .at) (s .result .before) (s .result .head) (s .ensures) (c .if1 .taken))
+    let r = c .short-code .result in
+    ShortAt (drop (a .at) (bitList (a .bits .now))) (r .size) (r .half) (r .last)
 
-add-next-2 : tie.Need-add-next-2
-add-next-2 c =
-    let a = c .before .before .before .args in
-    let s = c .before .short-code in
-    omega (arith, inside (a .bits .now) (a .at) (s .result .before) (s .result .head) (s .ensures) (c .if1 .taken))
+short : (c : tie.After-short-code) → Short c
+short c = let a = c .before .before .before .args in c .short-code .ensures .0 (drop (a .at) (bitList (a .bits .now))) (c .before .fill .ensures)
+
+-- where it is neither the code 0 nor a longer one
+sized : (c : tie.Else2) → (1 < c .before .before .short-code .result .size) × (c .before .before .short-code .result .size < 9)
+sized c = let h = short (c .before .before) in (omega (arith, h .some, c .if2 .left), omega (arith, h .within, c .before .if1 .left))
 
 returns : tie.Need-returns
 returns c =
-    let a = c .before .before .before .before .before .before .before .args in
-    step-refused (a .at) (a .book) _ _ (sym (c .before .r .given .1) ∙ c .before .before .before .read-universal-code .ensures)
+    let a = c .before .before .before .before .before .args in
+    read-stepped (a .book) (bitList (a .bits .now)) (a .at) (c .read-level .result) (c .read-level .ensures)
+
+add-next : tie.Need-add-next
+add-next c =
+    let a = c .before .before .before .before .args in
+    let r = c .before .short-code .result in
+    let h = short (c .before) in
+    omega (arith, inside (a .bits .now) (a .at) (r .size) (r .half) (r .last) h (omega (arith, h .within, c .if1 .left)))
 
 returns-2 : tie.Need-returns-2
 returns-2 c =
-    let j = c .before .before .before .before in
-    let f = j .before .short-code in
-    let a = j .before .before .before .args in
-    let s = drop (a .at) (bitList (a .bits .now)) in
-    let e : Code (j .if1 .code) (j .if1 .next) ≡ codeAnswer (a .at) (code s) =
-    ⊎-elim (λ w. rw (w .1, w .2) (at-once s (a .at) (f .result .before) (f .result .head) (f .ensures) (w .0 .taken))) (λ w. rw (w .5, w .6) (sym (w .3 .given .1) ∙ w .1 .ensures)) (j .if1 .came) in
-    let l = c .before .level .given .0 .0 in
-    let r = c .before .level .given .0 .1 .0 in
-    let z : toZ w32 (ofZ w32 l) ≡ l = search needs in
-    ap (λ (x : ℤ). Level x r (j .if1 .next)) z ∙ step-level (a .at) (a .book) s (j .if1 .code) (j .if1 .next) l r e (sym (c .before .level .given .1) ∙ c .before .before .before .resolve-level-run .ensures)
+    let d = c .before .before in
+    let a = d .before .before .before .args in
+    let r = d .short-code .result in
+    end-stepped (a .book) (bitList (a .bits .now)) (a .at) (r .size) (r .half) (r .last) (short d) _ _ (c .if2 .taken)
+
+short-pair-requires : tie.Need-short-pair-requires
+short-pair-requires c κs = short (c .before .before) .small
+
+mul-level-of : tie.Need-mul-level-of
+mul-level-of c = omega (arith, short (c .before .before .before) .small)
+
+add-level-of : tie.Need-add-level-of
+add-level-of c = let h = short (c .before .before .before .before) in omega (arith, h .small, h .bit)
+
+sub-level-of : tie.Need-sub-level-of
+sub-level-of c = let h = sized (c .before .before) in omega (arith, short (c .before .before .before .before) .other-code (h .0) (h .1) .0)
+
+level-of-requires : tie.Need-level-of-requires
+level-of-requires c κs = omega (arith, c .before .short-pair .ensures .2)
+
+pass-requires : tie.Need-pass-requires
+pass-requires c κs =
+    let h = sized (c .before .before .before) in
+    (c .before .before .before .before .before .short-code .ensures .1 (h .1), omega (arith, h .1))
 
 returns-3 : tie.Need-returns-3
 returns-3 c =
-    let j = c .before .before .before in
-    let f = j .before .short-code in
-    let a = j .before .before .before .args in
-    let s = drop (a .at) (bitList (a .bits .now)) in
-    let e : Code (j .if1 .code) (j .if1 .next) ≡ codeAnswer (a .at) (code s) =
-    ⊎-elim (λ w. rw (w .1, w .2) (at-once s (a .at) (f .result .before) (f .result .head) (f .ensures) (w .0 .taken))) (λ w. rw (w .5, w .6) (sym (w .3 .given .1) ∙ w .1 .ensures)) (j .if1 .came) in
-    step-end (a .at) (a .book) s (j .if1 .code) (j .if1 .next) e (sym (c .enum-told .given .1) ∙ c .before .before .resolve-level-run .ensures)
+    let e = c .before .before .before .before in
+    let d = e .before .before in
+    let a = d .before .before .before .args in
+    let r = d .short-code .result in
+    let h = sized e in
+    let p = c .before .before .before .short-pair in
+    let l = c .before .level-of in
+    level-stepped (a .book) (bitList (a .bits .now)) (a .at) (r .size) (r .half) (r .last) (short d) _ _ (h .0) (h .1) (l .result) (p .result .run) (l .ok) (l .ensures ∙ ap (levelOf _) (p .ensures .0)) (p .ensures .1) (c .pass .ensures (drop (a .at) (bitList (a .bits .now))) (d .before .fill .ensures))
 
 pub next-level-spec : {M : Type 1} → statement M
 next-level-spec =
     tie.close
     (tie.spec
     (λ c κs. search needs)
-    (λ c. search needs)
+    (λ c κs. search needs)
+    (λ c κs. search needs)
+    returns
     (λ c. search needs)
     add-next
-    add-next-2
-    (λ c κs. search needs)
-    (λ c. search needs)
-    (λ c. search needs)
-    returns
-    (λ c κs. search needs)
-    (λ c. search needs)
-    (λ c. search needs)
     returns-2
+    short-pair-requires
+    mul-level-of
+    add-level-of
+    sub-level-of
+    level-of-requires
+    pass-requires
     returns-3)

@@ -1,0 +1,40 @@
+-- `residual::svq3_coeff::store_list` stores as many levels as the list has positions.
+use mathlib.Core.Path.{subst, sym, _∙_}
+use Prim.Native.Nat.{_+_, _≤_}
+use native.Mathlib.Omega.{arith}
+use borrow.Author.Needs.{needs}
+use lib.ListN.{length}
+use Rattle.residual.specs.Book.{positions}
+use Rattle.residual.proofs.svq3_coeff.store_list.Statement.{statement}
+use Rattle.residual.proofs.svq3_coeff.store_list.Tie as tie
+
+store-levels-requires : tie.Need-store-levels-requires
+store-levels-requires c κs =
+    let s = c .before .before .before .before in
+    let h = subst (λ b. s .args .base + positions b ≤ length (s .args .out .now)) (c .before .before .enum-told .given .1) (s .pre) in
+    (omega arith, h)
+
+store-levels-requires-2 : tie.Need-store-levels-requires-2
+store-levels-requires-2 c κs =
+    let s = c .before .before .before .before in
+    let h = subst (λ b. s .args .base + positions b ≤ length (s .args .out .now)) (c .before .before .enum-told2 .given .1) (s .pre) in
+    (omega arith, h)
+
+returns : tie.Need-returns
+returns c = rw (c .before .before .before .before .enum-told .given .1) (c .before .store-levels .ensures)
+
+returns-2 : tie.Need-returns-2
+returns-2 c = rw (c .before .before .before .before .enum-told2 .given .1) (c .before .store-levels2 .ensures)
+
+pub store-list-spec : {M : Type 1} → statement M
+store-list-spec =
+    tie.close
+    (tie.spec
+    (λ c. search needs)
+    store-levels-requires
+    (λ c. search needs)
+    store-levels-requires-2
+    (λ c. search needs)
+    returns
+    (λ c. search needs)
+    returns-2)
