@@ -1,6 +1,6 @@
 -- The three kinds of lists by their numbers: luma below 16, chroma DC 16 and 17, chroma AC from 18 on.
 -- Assumes nothing.
-use mathlib.Core.Path.{_≡_}
+use mathlib.Core.Path.{_≡_, sym, ap, _∙_}
 use mathlib.Core.Logic.{⊎-elim}
 use Prim.Native.Nat.{ℕ, _+_, _-_, _*_, _/_, _≤_, _<_}
 use native.Mathlib.Omega.{arith}
@@ -12,7 +12,7 @@ use Rattle.residual.specs.Book.{positions}
 use Rattle.residual.specs.Pattern.{classOf, quadrantCoded}
 use Rattle.residual.specs.declared.svq3_coeff.ResidualBook.{ResidualBook}
 use Rattle.residual.specs.declared.svq3_coeff.ResidualBook.the-variants.{NormalScan, ChromaDc}
-use Rattle.record.specs.Items.{itemCoded, itemBook, itemStart, itemCount, itemPlace}
+use Rattle.record.specs.Items.{itemCoded, Group, itemBook, itemStart, itemCount, itemPlace}
 
 pub by-kind : {A : Type 0} (i : ℕ) → (i < 16 → A) → (16 ≤ i → i < 18 → A) → (18 ≤ i → A) → A
 by-kind i luma dc ac = ⊎-elim luma (λ (h : 16 ≤ i). ⊎-elim (dc h) ac (lt-or-le i 18)) (lt-or-le i 16)
@@ -78,3 +78,21 @@ start-fits i = omega (arith, start-most i, few (itemBook i))
 pub start-in : (i : ℕ) → itemStart i < itemCount i
 unfolding itemCount
 start-in i = start-fits i
+
+-- ---- a list and those behind it in its group: the rest of a luma quadrant, of chroma DC, of chroma AC
+pub luma-group : (i e : ℕ) → i < 16 → e ≡ (i / 4 + 1) * 4 → Group i e
+luma-group i e h q =
+    record {
+      on = omega arith;
+      most = omega arith;
+      same = λ pattern j a b.
+          let k : j < 16 = omega arith in
+          let d : j / 4 ≡ i / 4 = omega arith in
+          is-luma j k .coded pattern ∙ ap (quadrantCoded pattern) d ∙ sym (is-luma i h .coded pattern);
+    }
+
+pub dc-group : (i : ℕ) → 16 ≤ i → i < 18 → Group i 18
+dc-group i h k = record { on = k; most = omega arith; same = λ pattern j a b. is-dc j (omega arith) b .coded pattern ∙ sym (is-dc i h k .coded pattern) }
+
+pub ac-group : (i : ℕ) → 18 ≤ i → i < 26 → Group i 26
+ac-group i h k = record { on = k; most = omega arith; same = λ pattern j a b. is-ac j (omega arith) .coded pattern ∙ sym (is-ac i h .coded pattern) }

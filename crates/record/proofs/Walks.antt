@@ -1,10 +1,9 @@
--- The lists one at a time, as the loops read them: what holds before each list, and what each answer says of the whole.
+-- The lists one at a time, and groups that are not coded, as the loops go over them: what holds before each list, and what each answer says of the whole.
 -- Assumes nothing.
 use mathlib.Core.Path.{_≡_, refl, sym, ap, _∙_}
-use mathlib.Core.Bool.{Bool, true, false}
+use mathlib.Core.Bool.{true, false}
 use mathlib.Core.List.{List}
-use Prim.Native.Nat.{ℕ, suc, _+_, _-_, _≤_, _<_}
-use native.Mathlib.Nat.{add-zero}
+use Prim.Native.Nat.{ℕ, zero, suc, _+_, _-_, _≤_, _<_}
 use native.Mathlib.Numerals.{add-one}
 use native.Mathlib.Omega.{arith}
 use lib.IntN.{ℤ}
@@ -17,7 +16,7 @@ use Rattle.residual.specs.Levels.{Decoded}
 use Rattle.residual.specs.declared.svq3_coeff.ListAnswer.{ListAnswer}
 use Rattle.residual.specs.declared.svq3_coeff.ListAnswer.the-variants.{End, Refused}
 use Rattle.residual.proofs.Gots.{after-zero, after-after}
-use Rattle.record.specs.Items.{itemCoded, itemPlace, readLists}
+use Rattle.record.specs.Items.{itemCoded, Group, itemPlace, readLists}
 use Rattle.record.specs.Answers.{Left}
 use Rattle.record.proofs.Answers.{ended, refused-by, left-end, left-refused}
 use Rattle.record.proofs.Turns.{when-true, when-false}
@@ -27,33 +26,30 @@ pub stored : (at : ℕ) (read : Got (List ℤ)) (out : List ℤ) (place : ℕ) (
 stored at (got xs n) out place answer left d = record { answers = d .answers; leaves = λ ls k e. d .leaves ∙ got-value e }
 stored at (refused r) out place answer left d = record { answers = d .answers; leaves = λ ls k e. never e }
 
-module _ {E : Type 0} (read : ℕ → List E → Got (List ℤ)) (pattern : ℕ) where
-  -- ---- one list
-  pub one-coded : (i : ℕ) (ls : List ℤ) (s : List E) → itemCoded pattern i ≡ true → readLists read 1 i pattern ls s ≡ mapGot (sets ls (itemPlace i)) (read i s)
-  unfolding readLists
-  one-coded i ls s t = when-true (itemCoded pattern i) _ _ t ∙ go (read i s)
+-- A GROUP THAT IS NOT CODED CHANGES NOTHING, whatever f says of the n lists from i on, as long as a list that is not coded changes nothing
+module _ {A : Type 0} (pattern : ℕ) (f : ℕ → ℕ → A) (passed : (n i : ℕ) → itemCoded pattern i ≡ false → f (suc n) i ≡ f n (suc i)) where
+  pub group-passed : {i e : ℕ} → Group i e → itemCoded pattern i ≡ false → f (26 - i) i ≡ f (26 - e) e
+  group-passed {i} {e} g t = go (e - i) i (omega (arith, g .on)) (λ j a b. g .same pattern j a b ∙ t)
     where
-      go : (g : Got (List ℤ)) → andThen g s (λ found rest. got (sets ls (itemPlace i) found) 0) ≡ mapGot (sets ls (itemPlace i)) g
-      go (got xs n) = ap (got (sets ls (itemPlace i) xs)) (add-zero n)
-      go (refused r) = refl
+      go : (k i : ℕ) → i + k ≡ e → ((j : ℕ) → i ≤ j → j < e → itemCoded pattern j ≡ false) → f (26 - i) i ≡ f (26 - e) e
+      go zero i h none = let z : i ≡ e = omega arith in ap (λ (n : ℕ). f (26 - n) n) z
+      go (suc k) i h none =
+          let z : 26 - i ≡ suc (26 - suc i) = omega (arith, g .most) in
+          ap (λ (n : ℕ). f n i) z ∙ passed (26 - suc i) i (none i (omega arith) (omega arith)) ∙ go k (suc i) (omega arith) (λ j a b. none j (omega arith) b)
 
-  pub one-passed : (i : ℕ) (ls : List ℤ) (s : List E) → itemCoded pattern i ≡ false → readLists read 1 i pattern ls s ≡ got ls 0
+module _ {E : Type 0} (read : ℕ → List E → Got (List ℤ)) (pattern : ℕ) where
+  -- ---- one list, then those behind it
+  one-coded : (n i : ℕ) (ls : List ℤ) (s : List E) → itemCoded pattern i ≡ true → readLists read (suc n) i pattern ls s ≡ andThen (mapGot (sets ls (itemPlace i)) (read i s)) s (readLists read n (suc i) pattern)
   unfolding readLists
-  one-passed i ls s t = when-false (itemCoded pattern i) _ _ t
-
-  -- one list, then those behind it
-  one-more : (n i : ℕ) (ls : List ℤ) (s : List E) → readLists read (suc n) i pattern ls s ≡ andThen (readLists read 1 i pattern ls s) s (readLists read n (suc i) pattern)
-  unfolding readLists
-  one-more n i ls s = go (itemCoded pattern i) refl
+  one-coded n i ls s t = when-true (itemCoded pattern i) _ _ t ∙ join (read i s)
     where
       join : (g : Got (List ℤ)) → andThen g s (λ found. readLists read n (suc i) pattern (sets ls (itemPlace i) found)) ≡ andThen (mapGot (sets ls (itemPlace i)) g) s (readLists read n (suc i) pattern)
       join (got xs n) = refl
       join (refused r) = refl
 
-      go : (t : Bool) → itemCoded pattern i ≡ t → readLists read (suc n) i pattern ls s ≡ andThen (readLists read 1 i pattern ls s) s (readLists read n (suc i) pattern)
-      go true t = when-true (itemCoded pattern i) _ _ t ∙ join (read i s) ∙ ap (λ (g : Got (List ℤ)). andThen g s (readLists read n (suc i) pattern)) (sym (one-coded i ls s t))
-      go false t =
-          when-false (itemCoded pattern i) _ _ t ∙ sym (after-zero (readLists read n (suc i) pattern ls s)) ∙ ap (λ (g : Got (List ℤ)). andThen g s (readLists read n (suc i) pattern)) (sym (one-passed i ls s t))
+  one-passed : (n i : ℕ) (ls : List ℤ) (s : List E) → itemCoded pattern i ≡ false → readLists read (suc n) i pattern ls s ≡ readLists read n (suc i) pattern ls s
+  unfolding readLists
+  one-passed n i ls s t = when-false (itemCoded pattern i) _ _ t
 
   -- ---- before list i, at the place p: the levels so far, and what is still to be read
   pub record Going (ls₀ : List ℤ) (s : List E) (at i p : ℕ) (ls : List ℤ) : Type 0 where
@@ -67,28 +63,38 @@ module _ {E : Type 0} (read : ℕ → List E → Got (List ℤ)) (pattern : ℕ)
       record { is = rw z (sym (after-zero (readLists read 26 0 pattern ls (drop at s)))); on = omega arith; some = omega arith }
 
   module _ {ls₀ : List ℤ} {s : List E} {at i p : ℕ} {ls : List ℤ} (g : Going ls₀ s at i p ls) where
-    step : i < 26 → readLists read 26 0 pattern ls₀ (drop at s) ≡ after (p - at) (andThen (readLists read 1 i pattern ls (drop p s)) (drop p s) (readLists read (26 - suc i) (suc i) pattern))
-    step h =
+    step : i < 26 → itemCoded pattern i ≡ true
+        → readLists read 26 0 pattern ls₀ (drop at s) ≡ after (p - at) (andThen (mapGot (sets ls (itemPlace i)) (read i (drop p s))) (drop p s) (readLists read (26 - suc i) (suc i) pattern))
+    step h t =
         let e : 26 - i ≡ suc (26 - suc i) = omega arith in
-        g .is ∙ ap (after (p - at)) (ap (λ (n : ℕ). readLists read n i pattern ls (drop p s)) e ∙ one-more (26 - suc i) i ls (drop p s))
+        g .is ∙ ap (after (p - at)) (ap (λ (n : ℕ). readLists read n i pattern ls (drop p s)) e ∙ one-coded (26 - suc i) i ls (drop p s) t)
 
-    pub goes-on : (answer : ListAnswer) (next : ℕ) (left : List ℤ) → i < 26 → answer ≡ End next → Left p (readLists read 1 i pattern ls (drop p s)) answer left → Going ls₀ s at (i + 1) next left
-    goes-on answer next left h a l =
-        let e = ended p (readLists read 1 i pattern ls (drop p s)) next left (rw a at l) in
+    pub goes-on : (answer : ListAnswer) (next : ℕ) (left : List ℤ) → i < 26 → itemCoded pattern i ≡ true → answer ≡ End next → Left p (mapGot (sets ls (itemPlace i)) (read i (drop p s))) answer left
+        → Going ls₀ s at (i + 1) next left
+    goes-on answer next left h t a l =
+        let e = ended p (mapGot (sets ls (itemPlace i)) (read i (drop p s))) next left (rw a at l) in
         let rest : List E → Got (List ℤ) = readLists read (26 - suc i) (suc i) pattern left in
         let far : p - at + e .taken ≡ next - at = omega (arith, e .moved, g .on) in
         let there : drop (e .taken) (drop p s) ≡ drop next s = drop-drop (e .taken) p s ∙ ap (λ (n : ℕ). drop n s) (sym (e .moved)) in
         record {
-          is = rw (add-one i) (step h ∙ ap (λ (a : Got (List ℤ)). after (p - at) (andThen a (drop p s) (readLists read (26 - suc i) (suc i) pattern))) (e .is)
+          is = rw (add-one i) (step h t ∙ ap (λ (a : Got (List ℤ)). after (p - at) (andThen a (drop p s) (readLists read (26 - suc i) (suc i) pattern))) (e .is)
               ∙ after-after (p - at) (e .taken) (rest (drop (e .taken) (drop p s))) ∙ ap (λ (n : ℕ). after n (rest (drop (e .taken) (drop p s)))) far ∙ ap (λ (u : List E). after (next - at) (rest u)) there);
           on = omega (arith, e .moved, g .on);
           some = omega arith;
         }
 
-    pub stops : (answer : ListAnswer) (r : Refusal) (left : List ℤ) → i < 26 → answer ≡ Refused r → Left p (readLists read 1 i pattern ls (drop p s)) answer left → Left at (readLists read 26 0 pattern ls₀ (drop at s)) (Refused r) left
-    stops answer r left h a l =
+    pub stops : (answer : ListAnswer) (r : Refusal) (left : List ℤ) → i < 26 → itemCoded pattern i ≡ true → answer ≡ Refused r → Left p (mapGot (sets ls (itemPlace i)) (read i (drop p s))) answer left
+        → Left at (readLists read 26 0 pattern ls₀ (drop at s)) (Refused r) left
+    stops answer r left h t a l =
         left-refused at (readLists read 26 0 pattern ls₀ (drop at s)) r left
-        (step h ∙ ap (λ (a : Got (List ℤ)). after (p - at) (andThen a (drop p s) (readLists read (26 - suc i) (suc i) pattern))) (refused-by p (readLists read 1 i pattern ls (drop p s)) r left (rw a at l)))
+        (step h t ∙ ap (λ (a : Got (List ℤ)). after (p - at) (andThen a (drop p s) (readLists read (26 - suc i) (suc i) pattern))) (refused-by p (mapGot (sets ls (itemPlace i)) (read i (drop p s))) r left (rw a at l)))
+
+    pub passes : {e : ℕ} → Group i e → itemCoded pattern i ≡ false → Going ls₀ s at e p ls
+    passes r t = record {
+      is = g .is ∙ ap (after (p - at)) (group-passed pattern (λ n j. readLists read n j pattern ls (drop p s)) (λ n j. one-passed n j ls (drop p s)) r t);
+      on = g .on;
+      some = r .most;
+    }
 
     pub ends : 26 ≤ i → Left at (readLists read 26 0 pattern ls₀ (drop at s)) (End p) ls
     unfolding readLists

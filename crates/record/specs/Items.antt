@@ -1,8 +1,9 @@
 -- The 26 lists of levels, in the order in which they are read and written: 16 luma blocks, four for each quadrant in bit order; Cb DC, Cr DC; four Cb blocks, four Cr blocks.
 -- Assumes nothing.
+use mathlib.Core.Path.{_≡_}
 use mathlib.Core.Bool.{Bool}
 use mathlib.Core.List.{List, [], _++_}
-use Prim.Native.Nat.{ℕ, zero, suc, _+_, _-_, _*_, _/_}
+use Prim.Native.Nat.{ℕ, zero, suc, _+_, _-_, _*_, _/_, _≤_, _<_}
 use lib.Dec.{eqb, ltb}
 use lib.IntN.{ℤ}
 use lib.ListN.{take, drop}
@@ -18,6 +19,12 @@ use Rattle.residual.specs.declared.svq3_coeff.ResidualBook.the-variants.{Normal
 -- a luma list by its quadrant, chroma DC from class 1 on, chroma AC at class 2
 unfoldable pub itemCoded : ℕ → ℕ → Bool
 itemCoded pattern i = if ltb i 16 then quadrantCoded pattern (i / 4) else if ltb i 18 then ltb 0 (classOf pattern) else eqb (classOf pattern) 2
+
+-- each list from i on and before e is coded where list i is, and only there
+pub record Group (i e : ℕ) : Type 0 where
+  pub on : i < e
+  pub most : e ≤ 26
+  pub same : (pattern j : ℕ) → i ≤ j → j < e → itemCoded pattern j ≡ itemCoded pattern i
 
 -- the book of its codes
 unfoldable pub itemBook : ℕ → ResidualBook
@@ -52,9 +59,12 @@ unfoldable pub writeLists : {E : Type 0} → (ℕ → List ℤ → List E) → �
 writeLists write zero i pattern levels = []
 writeLists write (suc n) i pattern levels = (if itemCoded pattern i then write i (itemLevels levels i) else []) ++ writeLists write n (suc i) pattern levels
 
--- the lists as a macroblock's bits have them: read, and their bits
+-- the lists as a macroblock's bits have them: one read, all of them, and their bits
+abbrev pub readItem : ℕ → List Bool → Got (List ℤ)
+readItem i = block (itemBook i) (itemStart i)
+
 unfoldable pub readItems : ℕ → ℕ → ℕ → List ℤ → List Bool → Got (List ℤ)
-readItems = readLists (λ i. block (itemBook i) (itemStart i))
+readItems = readLists readItem
 
 unfoldable pub itemsBits : ℕ → ℕ → ℕ → List ℤ → List Bool
 itemsBits = writeLists (λ i. blockBits (itemBook i) (itemStart i))

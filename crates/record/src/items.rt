@@ -2,8 +2,10 @@
 ghost use mathlib.Core.Path.{_≡_};
 ghost use Prim.Native.Nat.{_<_, _^_};
 ghost use lib.ListN.{length, drop};
+ghost use lib.Seq.{sets};
+ghost use Rattle.refusal.specs.Got.{mapGot};
 ghost use Rattle.bits.specs.Bits.{bitList};
-ghost use Rattle.record.specs.Items.{itemCoded, itemStart, itemCount, itemPlace, readItems};
+ghost use Rattle.record.specs.Items.{itemCoded, itemPlace, Group, readItem, readItems};
 ghost use Rattle.record.specs.Answers.{Left};
 use residual::svq3_cbp::chroma_class;
 use residual::svq3_cbp::luma_quadrant_coded;
@@ -24,21 +26,15 @@ pub fn item_coded(pattern: u8, i: usize) -> bool
     chroma_class(pattern) == 2
 }
 
-// The first place that is sent: an AC list has no place 0.
-pub fn item_start(i: usize) -> usize
-    ensures { λ r. ⌜ r ≡ itemStart i ⌝ }
-{
-    if i < 18 { 0 } else { 1 }
-}
-
-// The number of its places.
-pub fn item_count(i: usize) -> usize
-    ensures { λ r. ⌜ r ≡ itemCount i ⌝ }
+// The list behind the group of list i, which is a luma quadrant, chroma DC or chroma AC: where list i is not coded, nothing before that one is.
+pub fn group_end(i: usize) -> usize
+    requires { ⌜ i < 26 ⌝ }
+    ensures { λ r. ⌜ Group i r ⌝ }
 {
     if i < 16 {
-        return 16;
+        return (i / 4 + 1) * 4;
     }
-    if i < 18 { 4 } else { 16 }
+    if i < 18 { 18 } else { 26 }
 }
 
 // Its first place among the 392.
@@ -56,14 +52,11 @@ pub fn item_place(i: usize) -> usize
     }
 }
 
-// List i, where it is coded.
-fn read_item(levels: &mut [i32], bits: &[u8], at: usize, pattern: u8, i: usize) -> ListAnswer
+// List i, stored at its place.
+fn read_item(levels: &mut [i32], bits: &[u8], at: usize, i: usize) -> ListAnswer
     requires { ⌜ (i < 26) × (length (now levels) ≡ 392) × (length (now bits) < 2 ^ 61) ⌝ }
-    ensures { λ r. ⌜ Left at (readItems 1 i pattern (now (levels .entry)) (drop at (bitList (now (bits .entry))))) r (now (levels .exit)) ⌝ }
+    ensures { λ r. ⌜ Left at (mapGot (sets (now (levels .entry)) (itemPlace i)) (readItem i (drop at (bitList (now (bits .entry)))))) r (now (levels .exit)) ⌝ }
 {
-    if !item_coded(pattern, i) {
-        return ListAnswer::End(at);
-    }
     let place = item_place(i);
     if i < 16 {
         return decode_residual_4x4_normal(levels, place, bits, at, 0);
@@ -82,12 +75,16 @@ pub fn read_items(levels: &mut [i32], bits: &[u8], at: usize, pattern: u8) -> Li
     let mut p = at;
     let mut i = 0;
     while i < 26 {
-        match read_item(levels, bits, p, pattern, i) {
-            ListAnswer::End(next) => {
-                p = next;
-                i += 1;
+        if item_coded(pattern, i) {
+            match read_item(levels, bits, p, i) {
+                ListAnswer::End(next) => {
+                    p = next;
+                    i += 1;
+                }
+                ListAnswer::Refused(r) => return ListAnswer::Refused(r),
             }
-            ListAnswer::Refused(r) => return ListAnswer::Refused(r),
+        } else {
+            i = group_end(i);
         }
     }
     ListAnswer::End(p)

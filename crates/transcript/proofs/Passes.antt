@@ -70,14 +70,16 @@ pub not-passed : {X : Type 0} (at : ℕ) (g : Got X) (r : Refusal) → Refused r
 not-passed at (got x n) r e = absurd (let z : _≡_ {A = ℕ} 0 1 = cc in omega arith)
 not-passed at (refused q) r e = ap refused (cc)
 
--- what a reader that stores would say
+-- what a reader that stores would say, whatever f makes of the levels
+module _ (at : ℕ) (f : List ℤ → List ℤ) (g : Got (List ℤ)) where
+  pub left-of : (next : ℕ) → Passed next ≡ passAnswer at g → (ls : List ℤ) × Left at (mapGot f g) (list.End next) ls
+  left-of next e = let p = passed at g next e in (f (p .0), left-end at (mapGot f g) next (p .1) (f (p .0)) (ap (mapGot f) (p .2)) (p .3))
+
+  pub left-by : (r : Refusal) (ls : List ℤ) → Refused r ≡ passAnswer at g → Left at (mapGot f g) (list.Refused r) ls
+  left-by r ls e = left-refused at (mapGot f g) r ls (ap (mapGot f) (not-passed at g r e))
+
+-- and the other way round
 module _ (at : ℕ) (g : Got (List ℤ)) where
-  pub left-of : (next : ℕ) → Passed next ≡ passAnswer at g → (ls : List ℤ) × Left at g (list.End next) ls
-  left-of next e = let p = passed at g next e in (p .0, left-end at g next (p .1) (p .0) (p .2) (p .3))
-
-  pub left-by : (r : Refusal) (ls : List ℤ) → Refused r ≡ passAnswer at g → Left at g (list.Refused r) ls
-  left-by r ls e = left-refused at g r ls (not-passed at g r e)
-
   pub of-left : {next : ℕ} {ls : List ℤ} → Left at g (list.End next) ls → Passed next ≡ passAnswer at g
   of-left {next} {ls} l = let e = ended at g next ls l in rw (e .is) (ap Passed (e .moved))
 

@@ -1,26 +1,23 @@
 -- A record passed over part by part: what each part's answer says of the whole.
 -- Assumes nothing.
 use mathlib.Core.Path.{_≡_, sym, ap, _∙_}
-use mathlib.Core.Bool.{true, false}
+use mathlib.Core.Bool.{true}
 use mathlib.Core.List.{List, _++_}
 use Prim.Native.Nat.{ℕ, _+_, _-_, _*_, _≤_, _<_}
-use native.Mathlib.Nat.{add-zero}
 use native.Mathlib.Omega.{arith}
 use lib.IntN.{ℤ}
 use lib.ListN.{drop}
 use lib.Seq.{sets}
-use Rattle.refusal.specs.Got.{Got}
 use Rattle.refusal.specs.declared.Refusal.{Refusal}
 use Rattle.number.specs.Number.{numberAnswer}
 use Rattle.number.specs.declared.NumberAnswer.the-variants as number
 use Rattle.residual.specs.Levels.{zeros}
 use Rattle.vectors.specs.Modes.{numMotionVectors}
 use Rattle.record.specs.Record.{recordOf, noVectors, noLevels, withMotion, withResidual}
-use Rattle.record.specs.Items.{itemCoded, itemStart, itemCount, itemPlace}
+use Rattle.record.specs.Items.{itemStart, itemCount}
 use Rattle.record.specs.Parse.{field, readSigneds, parseItem, parseItems, parseResidual, parseMotion}
 use Rattle.record.specs.declared.Head.{Head}
 use Rattle.record.proofs.ListKinds.{is-luma, is-dc, is-ac}
-use Rattle.record.proofs.Walks.{one-coded, one-passed}
 use Rattle.transcript.specs.Answers.{passAnswer}
 use Rattle.transcript.specs.Short.{shortAt}
 use Rattle.transcript.specs.declared.pass.PassAnswer.{PassAnswer}
@@ -33,27 +30,19 @@ use Rattle.transcript.proofs.Passes.{passing, then-on, then-off, number
 pub short-passed : (s : List ℕ) (at n : ℕ) → shortAt s at n ≡ true → Passed (at + n) ≡ passAnswer at (readSigneds n (drop at s))
 short-passed s at n e = sym (ap (passAnswer at) (short-read s at n e))
 
-module _ (pattern i at : ℕ) (s : List ℕ) (ls : List ℤ) where
-  pub item-not : itemCoded pattern i ≡ false → Passed at ≡ passAnswer at (parseItems 1 i pattern ls s)
-  unfolding parseItems
-  item-not t = rw (one-passed parseItem pattern i ls s t) (ap Passed (sym (add-zero at)))
+module _ (i at : ℕ) (s : List ℕ) (answer : PassAnswer) where
+  item-passed : (n : ℕ) → itemCount i - itemStart i ≡ n → answer ≡ passAnswer at (readSigneds n s) → answer ≡ passAnswer at (parseItem i s)
+  unfolding parseItem
+  item-passed n c e = e ∙ ap (λ (m : ℕ). passAnswer at (readSigneds m s)) (sym c) ∙ sym (pass-map at (λ zs. zeros (itemStart i) ++ zs) (readSigneds (itemCount i - itemStart i) s))
 
-  module _ (t : itemCoded pattern i ≡ true) (answer : PassAnswer) where
-    item-passed : (n : ℕ) → itemCount i - itemStart i ≡ n → answer ≡ passAnswer at (readSigneds n s) → answer ≡ passAnswer at (parseItems 1 i pattern ls s)
-    unfolding parseItems parseItem
-    item-passed n c e =
-        e ∙ ap (λ (m : ℕ). passAnswer at (readSigneds m s)) (sym c)
-        ∙ sym (ap (passAnswer at) (one-coded parseItem pattern i ls s t) ∙ pass-map at (sets ls (itemPlace i)) (parseItem i s)
-        ∙ pass-map at (λ zs. zeros (itemStart i) ++ zs) (readSigneds (itemCount i - itemStart i) s))
+  pub luma-passed : i < 16 → answer ≡ passAnswer at (readSigneds 16 s) → answer ≡ passAnswer at (parseItem i s)
+  luma-passed h = item-passed 16 (omega (arith, is-luma i h .count, is-luma i h .start))
 
-    pub luma-passed : i < 16 → answer ≡ passAnswer at (readSigneds 16 s) → answer ≡ passAnswer at (parseItems 1 i pattern ls s)
-    luma-passed h = item-passed 16 (omega (arith, is-luma i h .count, is-luma i h .start))
+  pub dc-passed : 16 ≤ i → i < 18 → answer ≡ passAnswer at (readSigneds 4 s) → answer ≡ passAnswer at (parseItem i s)
+  dc-passed h k = item-passed 4 (omega (arith, is-dc i h k .count, is-dc i h k .start))
 
-    pub dc-passed : 16 ≤ i → i < 18 → answer ≡ passAnswer at (readSigneds 4 s) → answer ≡ passAnswer at (parseItems 1 i pattern ls s)
-    dc-passed h k = item-passed 4 (omega (arith, is-dc i h k .count, is-dc i h k .start))
-
-    pub ac-passed : 18 ≤ i → answer ≡ passAnswer at (readSigneds 15 s) → answer ≡ passAnswer at (parseItems 1 i pattern ls s)
-    ac-passed h = item-passed 15 (omega (arith, is-ac i h .count, is-ac i h .start))
+  pub ac-passed : 18 ≤ i → answer ≡ passAnswer at (readSigneds 15 s) → answer ≡ passAnswer at (parseItem i s)
+  ac-passed h = item-passed 15 (omega (arith, is-ac i h .count, is-ac i h .start))
 
 -- ---- pattern, quantiser, levels
 module _ (h : Head) (vs : List ℤ) (s : List ℕ) (at : ℕ) where

@@ -2,7 +2,6 @@
 -- Assumes nothing.
 use mathlib.Core.Path.{_≡_, refl, sym, ap, subst, _∙_}
 use mathlib.Core.List.{List, [], _∷_, _++_}
-use mathlib.Core.Bool.{true, false}
 use Prim.Native.Nat.{ℕ, zero, suc, _+_, _-_, _≤_, _<_}
 use native.Mathlib.Nat.{add-zero}
 use native.Mathlib.Numerals.{add-one}
@@ -25,14 +24,13 @@ use Rattle.residual.specs.Levels.{zeros}
 use Rattle.residual.specs.declared.svq3_coeff.ListAnswer.{ListAnswer}
 use Rattle.residual.specs.declared.svq3_coeff.ListAnswer.the-variants as list
 use Rattle.residual.proofs.Gots.{after-zero, after-after, map-after, map-map}
-use Rattle.record.specs.Items.{itemCoded, itemStart, itemCount, itemPlace}
-use Rattle.record.specs.Parse.{field, readSigneds, parseItem, parseItems}
+use Rattle.record.specs.Items.{itemStart, itemCount, itemPlace}
+use Rattle.record.specs.Parse.{field, readSigneds, parseItem}
 use Rattle.record.specs.Answers.{Left}
 use Rattle.record.proofs.Turns.{when-true, when-false}
 use Rattle.record.proofs.ListKinds.{start-most, start-in, is-luma, is-dc, is-ac}
 use Rattle.record.proofs.Fields.{signeds-format}
 use Rattle.record.proofs.Answers.{left-end, left-refused}
-use Rattle.record.proofs.Walks.{one-coded, one-passed}
 
 -- ---- a number with a limit
 module _ (at most : ℕ) (s : List ℕ) where
@@ -123,11 +121,7 @@ placed ls place zero (z ∷ zs) h k = rw (add-zero place) (ap (λ (l : List ℤ)
 placed ls place (suc zero) zs h k = ap (λ (n : ℕ). sets (set ls place (pos 0)) n zs) (add-one place)
 placed ls place (suc (suc n)) zs h k = absurd (omega arith)
 
-module _ (pattern i at : ℕ) (ls : List ℤ) (s : List ℕ) where
-  pub parse-passed : itemCoded pattern i ≡ false → Left at (parseItems 1 i pattern ls s) (list.End at) ls
-  unfolding parseItems
-  parse-passed t = left-end at (parseItems 1 i pattern ls s) at 0 ls (one-passed parseItem pattern i ls s t) (sym (add-zero at))
-
+module _ (i at : ℕ) (ls : List ℤ) (s : List ℕ) where
   parsed : mapGot (sets (set ls (itemPlace i) (pos 0)) (itemPlace i + itemStart i)) (readSigneds (itemCount i - itemStart i) s) ≡ mapGot (sets ls (itemPlace i)) (parseItem i s)
   unfolding parseItem
   parsed = go (readSigneds (itemCount i - itemStart i) s) refl
@@ -139,32 +133,26 @@ module _ (pattern i at : ℕ) (ls : List ℤ) (s : List ℕ) where
           ap (λ (x : List ℤ). got x n) (placed ls (itemPlace i) (itemStart i) zs (start-most i) (omega (arith, l, start-in i)))
       go (refused r) e = refl
 
-  parse-stored : (start count place : ℕ) (answer : ListAnswer) (left : List ℤ) → itemCoded pattern i ≡ true → start ≡ itemStart i → count ≡ itemCount i → place ≡ itemPlace i
-      → Left at (mapGot (sets (set ls place (pos 0)) (place + start)) (readSigneds (count - start) s)) answer left → Left at (parseItems 1 i pattern ls s) answer left
-  unfolding parseItems
-  parse-stored start count place answer left t b c p l =
-      rw (one-coded parseItem pattern i ls s t ∙ sym parsed) (rw (b, c, p) at l)
-
   -- a list with no place before its start
-  whole-stored : (count place : ℕ) (answer : ListAnswer) (left : List ℤ) → itemCoded pattern i ≡ true → itemStart i ≡ 0 → itemCount i ≡ count → place ≡ itemPlace i
-      → Left at (mapGot (sets ls place) (readSigneds count s)) answer left → Left at (parseItems 1 i pattern ls s) answer left
-  unfolding parseItems parseItem
-  whole-stored count place answer left t b c p l =
+  whole : (count : ℕ) → itemStart i ≡ 0 → itemCount i ≡ count → readSigneds count s ≡ parseItem i s
+  unfolding parseItem
+  whole count b c =
       let z : count - 0 ≡ count = omega arith in
-      let e : parseItem i s ≡ readSigneds count s =
-      (λ j. mapGot (λ zs. zeros (b j) ++ zs) (readSigneds (c j - b j) s)) ∙ ap (λ (n : ℕ). mapGot (λ zs. zeros 0 ++ zs) (readSigneds n s)) z ∙ same (readSigneds count s) in
-      subst (λ (g : Got (List ℤ)). Left at g answer left) (sym (one-coded parseItem pattern i ls s t ∙ (λ j. mapGot (sets ls (sym p j)) (e j)))) l
+      sym ((λ j. mapGot (λ zs. zeros (b j) ++ zs) (readSigneds (c j - b j) s)) ∙ ap (λ (n : ℕ). mapGot (λ zs. zeros 0 ++ zs) (readSigneds n s)) z ∙ same (readSigneds count s))
     where
       same : (g : Got (List ℤ)) → mapGot (λ zs. zeros 0 ++ zs) g ≡ g
       same (got zs n) = refl
       same (refused r) = refl
 
-  module _ (place : ℕ) (answer : ListAnswer) (left : List ℤ) (t : itemCoded pattern i ≡ true) (p : place ≡ itemPlace i) where
-    pub luma-stored : i < 16 → Left at (mapGot (sets ls place) (readSigneds 16 s)) answer left → Left at (parseItems 1 i pattern ls s) answer left
-    luma-stored h = let a = is-luma i h in whole-stored 16 place answer left t (a .start) (a .count) p
+  module _ (place : ℕ) (answer : ListAnswer) (left : List ℤ) (p : place ≡ itemPlace i) where
+    whole-stored : (count : ℕ) → itemStart i ≡ 0 → itemCount i ≡ count → Left at (mapGot (sets ls place) (readSigneds count s)) answer left → Left at (mapGot (sets ls (itemPlace i)) (parseItem i s)) answer left
+    whole-stored count b c = subst (λ (g : Got (List ℤ)). Left at g answer left) (λ j. mapGot (sets ls (p j)) (whole count b c j))
 
-    pub dc-stored : 16 ≤ i → i < 18 → Left at (mapGot (sets ls place) (readSigneds 4 s)) answer left → Left at (parseItems 1 i pattern ls s) answer left
-    dc-stored h k = let a = is-dc i h k in whole-stored 4 place answer left t (a .start) (a .count) p
+    pub luma-stored : i < 16 → Left at (mapGot (sets ls place) (readSigneds 16 s)) answer left → Left at (mapGot (sets ls (itemPlace i)) (parseItem i s)) answer left
+    luma-stored h = let a = is-luma i h in whole-stored 16 (a .start) (a .count)
 
-    pub ac-stored : 18 ≤ i → Left at (mapGot (sets (set ls place (pos 0)) (place + 1)) (readSigneds 15 s)) answer left → Left at (parseItems 1 i pattern ls s) answer left
-    ac-stored h = let a = is-ac i h in parse-stored 1 16 place answer left t (sym (a .start)) (sym (a .count)) p
+    pub dc-stored : 16 ≤ i → i < 18 → Left at (mapGot (sets ls place) (readSigneds 4 s)) answer left → Left at (mapGot (sets ls (itemPlace i)) (parseItem i s)) answer left
+    dc-stored h k = let a = is-dc i h k in whole-stored 4 (a .start) (a .count)
+
+    pub ac-stored : 18 ≤ i → Left at (mapGot (sets (set ls place (pos 0)) (place + 1)) (readSigneds 15 s)) answer left → Left at (mapGot (sets ls (itemPlace i)) (parseItem i s)) answer left
+    ac-stored h l = let a = is-ac i h in rw (← parsed, a .start, a .count, ← p) l

@@ -17,13 +17,14 @@ use Rattle.number.specs.SignedNumber.{signedNumber}
 use Rattle.vectors.specs.Modes.{numMotionVectors}
 use Rattle.record.specs.Record.{Record, skipRecord}
 use Rattle.record.proofs.Lengths.{record-length}
-use Rattle.record.specs.Items.{itemCoded, itemStart, itemCount, itemPlace, itemLevels, writeLists}
+use Rattle.record.specs.Items.{itemCoded, Group, itemStart, itemCount, itemPlace, itemLevels, writeLists}
 use Rattle.record.specs.Write.{signedNumbers, itemBytes, itemsBytes, restBytes, recordBytes}
 use Rattle.transcript.specs.Answers.{Written}
 use Rattle.record.proofs.Turns.{when-true, when-false}
 use Rattle.record.proofs.Sets.{sets-append, drop-of-take}
 use Rattle.record.proofs.ListKinds.{is-luma, is-dc, is-ac}
 use Rattle.record.proofs.Lists.{within}
+use Rattle.record.proofs.Walks.{group-passed}
 
 -- ---- one part after another
 pub written-on : {out mid left : List ℕ} {at p next : ℕ} {a b : List ℕ} → Written out at a p mid → Written mid p b next left → Written out at (a ++ b) next left
@@ -115,57 +116,57 @@ no-numbers xs first count i h =
     rw e
 
 -- ---- lists
-module _ (pattern : ℕ) (levels : List ℤ) where
-  item-coded : (i start count place : ℕ) → itemCoded pattern i ≡ true → start ≡ itemStart i → count ≡ itemCount i → place ≡ itemPlace i
-      → itemsBytes 1 i pattern levels ≡ signedNumbers (take (count - start) (drop (place + start) levels))
-  unfolding itemsBytes writeLists itemBytes itemLevels
-  item-coded i start count place t s n p =
-      rw (s, n, p)
-      (append-nil _ ∙ when-true (itemCoded pattern i) _ _ t
-      ∙ ap signedNumbers (drop-of-take (itemStart i) (itemCount i) (drop (itemPlace i) levels) ∙ ap (take (itemCount i - itemStart i)) (drop-drop (itemStart i) (itemPlace i) levels)))
+module _ (levels : List ℤ) where
+  item-bytes : (i start count place : ℕ) → start ≡ itemStart i → count ≡ itemCount i → place ≡ itemPlace i → itemBytes i (itemLevels levels i) ≡ signedNumbers (take (count - start) (drop (place + start) levels))
+  unfolding itemBytes itemLevels
+  item-bytes i start count place s n p =
+      rw (s, n, p) (ap signedNumbers (drop-of-take (itemStart i) (itemCount i) (drop (itemPlace i) levels) ∙ ap (take (itemCount i - itemStart i)) (drop-drop (itemStart i) (itemPlace i) levels)))
 
   -- list i is the n numbers from `first` on
   pub record Stands (i first n : ℕ) : Type 0 where
     pub few : n ≤ 16
     pub inside : first + n ≤ 392
-    pub bytes : itemsBytes 1 i pattern levels ≡ signedNumbers (take n (drop first levels))
+    pub bytes : itemBytes i (itemLevels levels i) ≡ signedNumbers (take n (drop first levels))
 
-  module _ (i place : ℕ) (h : i < 26) (t : itemCoded pattern i ≡ true) (p : place ≡ itemPlace i) where
+  module _ (i place : ℕ) (h : i < 26) (p : place ≡ itemPlace i) where
     pub luma-stands : i < 16 → Stands i place 16
     luma-stands k =
         let a = is-luma i k in
         let z : place + 0 ≡ place = omega arith in
-        record { few = omega arith; inside = omega (arith, within i h, a .count); bytes = rw z at (item-coded i 0 16 place t (sym (a .start)) (sym (a .count)) p) }
+        record { few = omega arith; inside = omega (arith, within i h, a .count); bytes = rw z at (item-bytes i 0 16 place (sym (a .start)) (sym (a .count)) p) }
 
     pub dc-stands : 16 ≤ i → i < 18 → Stands i place 4
     dc-stands j k =
         let a = is-dc i j k in
         let z : place + 0 ≡ place = omega arith in
-        record { few = omega arith; inside = omega (arith, within i h, a .count); bytes = rw z at (item-coded i 0 4 place t (sym (a .start)) (sym (a .count)) p) }
+        record { few = omega arith; inside = omega (arith, within i h, a .count); bytes = rw z at (item-bytes i 0 4 place (sym (a .start)) (sym (a .count)) p) }
 
     pub ac-stands : 18 ≤ i → Stands i (place + 1) 15
     ac-stands k =
         let a = is-ac i k in
-        record { few = omega arith; inside = omega (arith, within i h, a .count); bytes = item-coded i 1 16 place t (sym (a .start)) (sym (a .count)) p }
+        record { few = omega arith; inside = omega (arith, within i h, a .count); bytes = item-bytes i 1 16 place (sym (a .start)) (sym (a .count)) p }
 
-  pub item-passed : (i : ℕ) → itemCoded pattern i ≡ false → itemsBytes 1 i pattern levels ≡ []
-  unfolding itemsBytes writeLists
-  item-passed i t = append-nil _ ∙ when-false (itemCoded pattern i) _ _ t
-
+module _ (pattern : ℕ) (levels : List ℤ) where
   -- the first of those that are left
-  pub first-item : (i : ℕ) → i < 26 → itemsBytes (26 - i) i pattern levels ≡ itemsBytes 1 i pattern levels ++ itemsBytes (26 - (i + 1)) (i + 1) pattern levels
+  first-item : (i : ℕ) → i < 26 → itemCoded pattern i ≡ true → itemsBytes (26 - i) i pattern levels ≡ itemBytes i (itemLevels levels i) ++ itemsBytes (26 - (i + 1)) (i + 1) pattern levels
   unfolding itemsBytes writeLists
-  first-item i h =
+  first-item i h t =
       let e : 26 - i ≡ suc (26 - (i + 1)) = omega arith in
-      let here : List ℕ = if itemCoded pattern i then itemBytes i (itemLevels levels i) else [] in
-      rw (e, add-one i) (ap (λ (l : List ℕ). l ++ writeLists itemBytes (26 - suc i) (suc i) pattern levels) (sym (append-nil here)))
+      rw (e, add-one i) (ap (λ (l : List ℕ). l ++ writeLists itemBytes (26 - suc i) (suc i) pattern levels) (when-true (itemCoded pattern i) (itemBytes i (itemLevels levels i)) [] t))
 
-  module _ (i : ℕ) (h : i < 26) {out₀ : List ℕ} {at : ℕ} {bytes out : List ℕ} {p : ℕ} (s : Still out₀ at bytes out p (itemsBytes (26 - i) i pattern levels)) where
-    pub item-fits : at + length bytes ≤ length out₀ → p + length (itemsBytes 1 i pattern levels) ≤ length out
-    item-fits = still-fits s (itemsBytes 1 i pattern levels) (itemsBytes (26 - (i + 1)) (i + 1) pattern levels) (first-item i h)
+  one-passed : (n i : ℕ) → itemCoded pattern i ≡ false → itemsBytes (suc n) i pattern levels ≡ itemsBytes n (suc i) pattern levels
+  unfolding itemsBytes writeLists
+  one-passed n i t = ap (λ (l : List ℕ). l ++ writeLists itemBytes n (suc i) pattern levels) (when-false (itemCoded pattern i) (itemBytes i (itemLevels levels i)) [] t)
 
-    pub item-more : (next : ℕ) (left : List ℕ) → Written out p (itemsBytes 1 i pattern levels) next left → Still out₀ at bytes left next (itemsBytes (26 - (i + 1)) (i + 1) pattern levels)
-    item-more next left w = still-more s (first-item i h) w
+  module _ (i : ℕ) {out₀ : List ℕ} {at : ℕ} {bytes out : List ℕ} {p : ℕ} (s : Still out₀ at bytes out p (itemsBytes (26 - i) i pattern levels)) where
+    pub item-fits : i < 26 → itemCoded pattern i ≡ true → at + length bytes ≤ length out₀ → p + length (itemBytes i (itemLevels levels i)) ≤ length out
+    item-fits h t = still-fits s (itemBytes i (itemLevels levels i)) (itemsBytes (26 - (i + 1)) (i + 1) pattern levels) (first-item i h t)
+
+    pub item-more : i < 26 → itemCoded pattern i ≡ true → (next : ℕ) (left : List ℕ) → Written out p (itemBytes i (itemLevels levels i)) next left → Still out₀ at bytes left next (itemsBytes (26 - (i + 1)) (i + 1) pattern levels)
+    item-more h t next left w = still-more s (first-item i h t) w
+
+    pub items-passed : {e : ℕ} → Group i e → itemCoded pattern i ≡ false → Still out₀ at bytes out p (itemsBytes (26 - e) e pattern levels)
+    items-passed g t = rw (← group-passed pattern (λ n j. itemsBytes n j pattern levels) one-passed g t) s
 
   pub no-item : (i : ℕ) → 26 ≤ i → itemsBytes (26 - i) i pattern levels ≡ []
   unfolding itemsBytes writeLists

@@ -10,7 +10,8 @@ ghost use Rattle.refusal.specs.Got.{mapGot};
 ghost use Rattle.number.specs.Number.{numberAnswer};
 ghost use Rattle.residual.specs.Levels.{zeros};
 ghost use Rattle.record.specs.Record.{noVectors, noLevels};
-ghost use Rattle.record.specs.Parse.{field, readSigneds, parseItems, parseResidual, parseMotion, parseRecord};
+ghost use Rattle.record.specs.Items.{itemPlace};
+ghost use Rattle.record.specs.Parse.{field, readSigneds, parseItem, parseItems, parseResidual, parseMotion, parseRecord};
 ghost use Rattle.record.specs.Answers.{Left};
 ghost use Rattle.transcript.specs.Answers.{Parsing, placeAnswer};
 ghost use Rattle.transcript.specs.Place.{parsePlace};
@@ -21,6 +22,7 @@ use number::read_number;
 use number::read_signed_number;
 use number::received_of;
 use record::Head;
+use record::items::group_end;
 use record::items::item_coded;
 use record::items::item_place;
 use record::place_head;
@@ -149,14 +151,11 @@ fn read_list(out: &mut [i32], bytes: &[u8], at: usize, first: usize, count: usiz
     read_signed_numbers(out, bytes, at, first, count)
 }
 
-// List i, where it is coded.
-fn parse_item(levels: &mut [i32], bytes: &[u8], at: usize, pattern: u8, i: usize) -> ListAnswer
+// List i, stored at its place.
+fn parse_item(levels: &mut [i32], bytes: &[u8], at: usize, i: usize) -> ListAnswer
     requires { ⌜ (i < 26) × (length (now levels) ≡ 392) ⌝ }
-    ensures { λ r. ⌜ Left at (parseItems 1 i pattern (now (levels .entry)) (drop at (now (bytes .entry)))) r (now (levels .exit)) ⌝ }
+    ensures { λ r. ⌜ Left at (mapGot (sets (now (levels .entry)) (itemPlace i)) (parseItem i (drop at (now (bytes .entry))))) r (now (levels .exit)) ⌝ }
 {
-    if !item_coded(pattern, i) {
-        return ListAnswer::End(at);
-    }
     let place = item_place(i);
     if i < 16 {
         return read_list(levels, bytes, at, place, 16);
@@ -176,12 +175,16 @@ fn parse_items(levels: &mut [i32], bytes: &[u8], at: usize, pattern: u8) -> List
     let mut p = at;
     let mut i = 0;
     while i < 26 {
-        match parse_item(levels, bytes, p, pattern, i) {
-            ListAnswer::End(next) => {
-                p = next;
-                i += 1;
+        if item_coded(pattern, i) {
+            match parse_item(levels, bytes, p, i) {
+                ListAnswer::End(next) => {
+                    p = next;
+                    i += 1;
+                }
+                ListAnswer::Refused(r) => return ListAnswer::Refused(r),
             }
-            ListAnswer::Refused(r) => return ListAnswer::Refused(r),
+        } else {
+            i = group_end(i);
         }
     }
     ListAnswer::End(p)

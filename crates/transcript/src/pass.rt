@@ -5,7 +5,7 @@ ghost use Prim.Native.Nat.{_≤_};
 ghost use lib.IntN.{ℤ};
 ghost use lib.ListN.{drop};
 ghost use Rattle.record.specs.Record.{noLevels};
-ghost use Rattle.record.specs.Parse.{readSigneds, parseItems, parseResidual, parseMotion, parseRecord};
+ghost use Rattle.record.specs.Parse.{readSigneds, parseItem, parseItems, parseResidual, parseMotion, parseRecord};
 ghost use Rattle.record.specs.declared.Head.{Head};
 ghost use Rattle.transcript.specs.Answers.{passAnswer};
 use crate::parse::ParseAnswer;
@@ -14,6 +14,7 @@ use crate::parse::read_field;
 use crate::parse::short_at;
 use number::NumberAnswer;
 use number::read_number;
+use record::items::group_end;
 use record::items::item_coded;
 use refusal::Refusal;
 use vectors::svq3_mb::num_motion_vectors;
@@ -52,13 +53,10 @@ fn pass_list(bytes: &[u8], at: usize, count: usize) -> PassAnswer
     pass_signed_numbers(bytes, at, count)
 }
 
-// List i, where it is coded, whatever levels stand before it.
-fn pass_item(bytes: &[u8], at: usize, pattern: u8, i: usize) -> PassAnswer
-    ensures { λ r. ⌜ ((ls : List ℤ) → r ≡ passAnswer at (parseItems 1 i pattern ls (drop at (now (bytes .entry))))) ⌝ }
+// List i.
+fn pass_item(bytes: &[u8], at: usize, i: usize) -> PassAnswer
+    ensures { λ r. ⌜ r ≡ passAnswer at (parseItem i (drop at (now (bytes .entry)))) ⌝ }
 {
-    if !item_coded(pattern, i) {
-        return PassAnswer::Passed(at);
-    }
     if i < 16 {
         return pass_list(bytes, at, 16);
     }
@@ -74,12 +72,16 @@ fn pass_items(bytes: &[u8], at: usize, pattern: u8) -> PassAnswer
     let mut p = at;
     let mut i = 0;
     while i < 26 {
-        match pass_item(bytes, p, pattern, i) {
-            PassAnswer::Passed(next) => {
-                p = next;
-                i += 1;
+        if item_coded(pattern, i) {
+            match pass_item(bytes, p, i) {
+                PassAnswer::Passed(next) => {
+                    p = next;
+                    i += 1;
+                }
+                PassAnswer::Refused(r) => return PassAnswer::Refused(r),
             }
-            PassAnswer::Refused(r) => return PassAnswer::Refused(r),
+        } else {
+            i = group_end(i);
         }
     }
     PassAnswer::Passed(p)

@@ -4,7 +4,8 @@ ghost use mathlib.Core.Bool.{true};
 ghost use Prim.Native.Nat.{_+_, _≤_, _<_};
 ghost use lib.ListN.{length, take, drop};
 ghost use lib.Seq.{sets};
-ghost use Rattle.record.specs.Write.{signedNumbers, itemsBytes, restBytes, recordBytes};
+ghost use Rattle.record.specs.Items.{itemLevels};
+ghost use Rattle.record.specs.Write.{signedNumbers, itemBytes, itemsBytes, restBytes, recordBytes};
 ghost use Rattle.record.specs.Record.{recordOf, skipRecord};
 ghost use Rattle.transcript.specs.Answers.{Written};
 ghost use Rattle.transcript.specs.Short.{allShort, Sent};
@@ -13,6 +14,7 @@ use number::put_number;
 use number::put_signed_number;
 use number::sent_of;
 use record::Head;
+use record::items::group_end;
 use record::items::item_coded;
 use record::items::item_place;
 use vectors::svq3_mb::num_motion_vectors;
@@ -90,14 +92,11 @@ fn put_list(out: &mut [u8], numbers: &[i32], at: usize, first: usize, count: usi
     put_signed_numbers(out, numbers, at, first, count)
 }
 
-// The levels of list i, where it is coded. The counts are literals, so that the compiler knows each loop's length.
-fn put_item(out: &mut [u8], levels: &[i32], at: usize, pattern: u8, i: usize) -> usize
-    requires { ⌜ (i < 26) × (length (now levels) ≡ 392) × (at + length (itemsBytes 1 i pattern (now levels)) ≤ length (now out)) ⌝ }
-    ensures { λ r. ⌜ Written (now (out .entry)) at (itemsBytes 1 i pattern (now (levels .entry))) r (now (out .exit)) ⌝ }
+// The levels of list i. The counts are literals, so that the compiler knows each loop's length.
+fn put_item(out: &mut [u8], levels: &[i32], at: usize, i: usize) -> usize
+    requires { ⌜ (i < 26) × (length (now levels) ≡ 392) × (at + length (itemBytes i (itemLevels (now levels) i)) ≤ length (now out)) ⌝ }
+    ensures { λ r. ⌜ Written (now (out .entry)) at (itemBytes i (itemLevels (now (levels .entry)) i)) r (now (out .exit)) ⌝ }
 {
-    if !item_coded(pattern, i) {
-        return at;
-    }
     let place = item_place(i);
     if i < 16 {
         return put_list(out, levels, at, place, 16);
@@ -116,8 +115,12 @@ fn put_items(out: &mut [u8], levels: &[i32], at: usize, pattern: u8) -> usize
     let mut p = at;
     let mut i = 0;
     while i < 26 {
-        p = put_item(out, levels, p, pattern, i);
-        i += 1;
+        if item_coded(pattern, i) {
+            p = put_item(out, levels, p, i);
+            i += 1;
+        } else {
+            i = group_end(i);
+        }
     }
     p
 }

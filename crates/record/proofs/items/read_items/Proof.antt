@@ -1,61 +1,59 @@
 -- `record::items::read_items`: what is still to be read, joined to what was read, is the whole.
 use mathlib.Core.Path.{_≡_, sym, _∙_}
-use mathlib.Core.Bool.{Bool}
-use mathlib.Core.List.{List}
-use Prim.Native.Nat.{ℕ, _-_}
+use Prim.Native.Nat.{_-_}
 use native.Mathlib.Omega.{arith}
 use borrow.Author.Needs.{needs}
-use lib.IntN.{ℤ}
 use lib.ListN.{length}
-use Rattle.refusal.specs.Got.{Got}
 use Rattle.bits.specs.Bits.{bitList}
-use Rattle.residual.specs.Levels.{block}
-use Rattle.record.specs.Items.{itemBook, itemStart, readItems}
-use Rattle.record.proofs.Walks.{Going, begins, goes-on, stops, ends}
+use Rattle.record.specs.Items.{readItem, readItems}
+use Rattle.record.proofs.Walks.{Going, begins, goes-on, stops, passes, ends}
 use Rattle.record.proofs.items.read_items.Statement.{statement}
 use Rattle.record.proofs.items.read_items.Tie as tie
 
-abbrev read : ℕ → List Bool → Got (List ℤ)
-read i = block (itemBook i) (itemStart i)
-
 abbrev Inv-loop : tie.InvT-loop
-Inv-loop levels₀ bits at pattern p₀ i₀ levels p i = Going read pattern levels₀ (bitList bits) at i p levels × (length levels ≡ 392)
+Inv-loop levels₀ bits at pattern p₀ i₀ levels p i = Going readItem pattern levels₀ (bitList bits) at i p levels × (length levels ≡ 392)
 
 abbrev μ-loop : tie.MeasureT-loop
 μ-loop levels₀ bits at pattern p₀ i₀ levels p i = 26 - i
 
 loop-holds : tie.Need-loop-holds Inv-loop μ-loop
-loop-holds c = let a = c .before .args in (begins read (a .pattern) (a .levels .now) (bitList (a .bits .now)) (a .at), c .before .pre .0)
+loop-holds c = let a = c .before .args in (begins readItem (a .pattern) (a .levels .now) (bitList (a .bits .now)) (a .at), c .before .pre .0)
 
 read-item-requires : tie.Need-read-item-requires Inv-loop μ-loop
-read-item-requires c κs = (c .before .loop-test .taken, c .before .before .loop .inv .1, c .before .before .before .before .pre .1)
+read-item-requires c κs = (c .before .before .before .loop-test .taken, c .before .before .before .before .loop .inv .1, c .before .before .before .before .before .before .pre .1)
 
 add-i : tie.Need-add-i Inv-loop μ-loop
-add-i c = omega (arith, c .before .before .before .before .before .before .loop-test .taken)
+add-i c = omega (arith, c .before .before .before .before .before .before .before .before .loop-test .taken)
 
 loop-less : tie.Need-loop-less Inv-loop μ-loop
-loop-less c = omega (arith, c .before .before .before .before .before .before .loop-test .taken)
+loop-less c = omega (arith, c .before .before .before .before .before .before .before .before .loop-test .taken)
 
 loop-again : tie.Need-loop-again Inv-loop μ-loop
 unfolding readItems
-loop-again c = (
-  goes-on read _ (c .before .before .before .before .before .before .before .loop .inv .0) _ _ _ (c .before .before .before .before .before .before .loop-test .taken) (c .before .next .given .1) (c .before .before .before .before .read-item .ensures),
-  c .before .before .before .before .read-item .kept .0 ∙ c .before .before .before .before .before .before .before .loop .inv .1,
-)
+loop-again c =
+    let l = c .before .before .before .before .before .before .before .before .before .loop in
+    let r = c .before .before .before .before .read-item in
+    (goes-on readItem _ (l .inv .0) _ _ _ (c .before .before .before .before .before .before .before .before .loop-test .taken) (sym (c .before .before .before .before .before .before .before .item-coded .ensures) ∙ c .before .before .before .before .before .before .if1 .taken) (c .before .next .given .1) (r .ensures), r .kept .0 ∙ l .inv .1)
 
 same-length : tie.Need-same-length Inv-loop μ-loop
-same-length c = c .before .before .before .before .read-item .kept .0 ∙ c .before .before .before .before .before .before .before .loop .inv .1 ∙ sym (c .before .before .before .before .before .before .before .before .before .pre .0)
+same-length c = c .before .before .before .before .read-item .kept .0 ∙ c .before .before .before .before .before .before .before .before .before .loop .inv .1 ∙ sym (c .before .before .before .before .before .before .before .before .before .before .before .pre .0)
 
 returns : tie.Need-returns Inv-loop μ-loop
 unfolding readItems
-returns c = stops read _ (c .before .before .before .before .before .before .before .loop .inv .0) _ _ _ (c .before .before .before .before .before .before .loop-test .taken) (c .before .r .given .1) (c .before .before .before .before .read-item .ensures)
+returns c = stops readItem _ (c .before .before .before .before .before .before .before .before .before .loop .inv .0) _ _ _ (c .before .before .before .before .before .before .before .before .loop-test .taken) (sym (c .before .before .before .before .before .before .before .item-coded .ensures) ∙ c .before .before .before .before .before .before .if1 .taken) (c .before .r .given .1) (c .before .before .before .before .read-item .ensures)
+
+loop-less-2 : tie.Need-loop-less-2 Inv-loop μ-loop
+loop-less-2 c = omega (arith, c .group-end .ensures .on, c .before .before .before .loop-test .taken)
+
+loop-again-2 : tie.Need-loop-again-2 Inv-loop μ-loop
+loop-again-2 c = (passes readItem _ (c .before .before .before .before .loop .inv .0) (c .group-end .ensures) (sym (c .before .before .item-coded .ensures) ∙ c .before .if1 .left), c .before .before .before .before .loop .inv .1)
 
 same-length-2 : tie.Need-same-length-2 Inv-loop μ-loop
 same-length-2 c = c .before .loop .inv .1 ∙ sym (c .before .before .before .pre .0)
 
 returns-2 : tie.Need-returns-2 Inv-loop μ-loop
 unfolding readItems
-returns-2 c = ends read _ (c .before .loop .inv .0) (c .loop-test .left)
+returns-2 c = ends readItem _ (c .before .loop .inv .0) (c .loop-test .left)
 
 pub read-items-spec : {M : Type 1} → statement M
 read-items-spec =
@@ -64,6 +62,7 @@ read-items-spec =
     Inv-loop
     μ-loop
     loop-holds
+    (λ c κs. search needs)
     read-item-requires
     (λ c. search needs)
     add-i
@@ -72,5 +71,8 @@ read-items-spec =
     (λ c. search needs)
     same-length
     returns
+    (λ c κs. c .before .before .loop-test .taken)
+    loop-less-2
+    loop-again-2
     same-length-2
     returns-2)

@@ -1,67 +1,52 @@
--- `transcript::write::put_item` writes the numbers of list i where it is coded.
-use mathlib.Core.Path.{sym, ap, _∙_}
+-- `transcript::write::put_item` writes the numbers of list i.
+use mathlib.Core.Path.{ap}
 use native.Mathlib.Omega.{arith}
-use borrow.Author.Tests.{not-true, not-false}
 use lib.ListN.{length}
-use lib.Seq.{sets}
-use Rattle.transcript.proofs.Writing.{Stands, luma-stands, dc-stands, ac-stands, item-passed}
+use Rattle.transcript.proofs.Writing.{luma-stands, dc-stands, ac-stands}
 use borrow.Author.Needs.{needs}
 use Rattle.transcript.proofs.write.put_item.Statement.{statement}
 use Rattle.transcript.proofs.write.put_item.Tie as tie
 
-returns : tie.Need-returns
-returns c =
-    let a = c .before .before .before .args in
-    let none = item-passed (a .pattern) (a .levels .now) (a .i) (sym (c .before .item-coded .ensures) ∙ not-true _ (c .if1 .taken)) in
-    record { moved = omega (arith, ap length none); leaves = ap (sets (a .out .now) (a .at)) (sym none) }
-
 put-list-requires : tie.Need-put-list-requires
 put-list-requires c κs =
-    let p = c .before .before .before .before .before .before in
-    let a = p .args in
-    let s = luma-stands (a .pattern) (a .levels .now) (a .i) _ (p .pre .0) (sym (c .before .before .before .before .item-coded .ensures) ∙ not-false _ (c .before .before .before .if1 .left)) (c .before .before .item-place .ensures) (c .before .if2 .taken) in
+    let p = c .before .before .before .before in
+    let s = luma-stands (p .args .levels .now) (p .args .i) _ (p .pre .0) (c .before .before .item-place .ensures) (c .before .if1 .taken) in
     (s .few, omega (arith, s .inside, p .pre .1), omega (arith, ap length (s .bytes), p .pre .2))
 
-returns-2 : tie.Need-returns-2
-returns-2 c =
-    let p = c .before .before .before .before .before .before .before .before .before in
-    let a = p .args in
-    let s = luma-stands (a .pattern) (a .levels .now) (a .i) _ (p .pre .0) (sym (c .before .before .before .before .before .before .before .item-coded .ensures) ∙ not-false _ (c .before .before .before .before .before .before .if1 .left)) (c .before .before .before .before .before .item-place .ensures) (c .before .before .before .before .if2 .taken) in
+returns : tie.Need-returns
+returns c =
+    let p = c .before .before .before .before .before .before .before in
+    let s = luma-stands (p .args .levels .now) (p .args .i) _ (p .pre .0) (c .before .before .before .before .before .item-place .ensures) (c .before .before .before .before .if1 .taken) in
     rw (s .bytes) (c .before .before .put-list .ensures)
 
 put-list-requires-2 : tie.Need-put-list-requires-2
 put-list-requires-2 c κs =
-    let p = c .before .before .before .before .before .before .before in
-    let a = p .args in
-    let s = dc-stands (a .pattern) (a .levels .now) (a .i) _ (p .pre .0) (sym (c .before .before .before .before .before .item-coded .ensures) ∙ not-false _ (c .before .before .before .before .if1 .left)) (c .before .before .before .item-place .ensures) (c .before .before .if2 .left) (c .before .if3 .taken) in
+    let p = c .before .before .before .before .before in
+    let s = dc-stands (p .args .levels .now) (p .args .i) _ (p .pre .0) (c .before .before .before .item-place .ensures) (c .before .before .if1 .left) (c .before .if2 .taken) in
     (s .few, omega (arith, s .inside, p .pre .1), omega (arith, ap length (s .bytes), p .pre .2))
 
-returns-3 : tie.Need-returns-3
-returns-3 c =
-    let p = c .before .before .before .before .before .before .before .before .before .before in
-    let a = p .args in
-    let s = dc-stands (a .pattern) (a .levels .now) (a .i) _ (p .pre .0) (sym (c .before .before .before .before .before .before .before .before .item-coded .ensures) ∙ not-false _ (c .before .before .before .before .before .before .before .if1 .left)) (c .before .before .before .before .before .before .item-place .ensures) (c .before .before .before .before .before .if2 .left) (c .before .before .before .before .if3 .taken) in
+returns-2 : tie.Need-returns-2
+returns-2 c =
+    let p = c .before .before .before .before .before .before .before .before in
+    let s = dc-stands (p .args .levels .now) (p .args .i) _ (p .pre .0) (c .before .before .before .before .before .before .item-place .ensures) (c .before .before .before .before .before .if1 .left) (c .before .before .before .before .if2 .taken) in
     rw (s .bytes) (c .before .before .put-list2 .ensures)
 
 add-put-list : tie.Need-add-put-list
 add-put-list c =
-    let p = c .before .before .before .before .before .before .before in
-    let a = p .args in
-    let s = ac-stands (a .pattern) (a .levels .now) (a .i) _ (p .pre .0) (sym (c .before .before .before .before .before .item-coded .ensures) ∙ not-false _ (c .before .before .before .before .if1 .left)) (c .before .before .before .item-place .ensures) (c .before .if3 .left) in
+    let p = c .before .before .before .before .before in
+    let s = ac-stands (p .args .levels .now) (p .args .i) _ (p .pre .0) (c .before .before .before .item-place .ensures) (c .before .if2 .left) in
     record { fits = omega (arith, s .inside) }
 
 put-list-requires-3 : tie.Need-put-list-requires-3
 put-list-requires-3 c κs =
-    let p = c .before .before .before .before .before .before .before in
-    let a = p .args in
-    let s = ac-stands (a .pattern) (a .levels .now) (a .i) _ (p .pre .0) (sym (c .before .before .before .before .before .item-coded .ensures) ∙ not-false _ (c .before .before .before .before .if1 .left)) (c .before .before .before .item-place .ensures) (c .before .if3 .left) in
+    let p = c .before .before .before .before .before in
+    let s = ac-stands (p .args .levels .now) (p .args .i) _ (p .pre .0) (c .before .before .before .item-place .ensures) (c .before .if2 .left) in
     (s .few, omega (arith, s .inside, p .pre .1), omega (arith, ap length (s .bytes), p .pre .2))
 
-returns-4 : tie.Need-returns-4
-returns-4 c =
-    let p = c .before .before .before .before .before .before .before .before .before .before in
-    let a = p .args in
-    let s = ac-stands (a .pattern) (a .levels .now) (a .i) _ (p .pre .0) (sym (c .before .before .before .before .before .before .before .before .item-coded .ensures) ∙ not-false _ (c .before .before .before .before .before .before .before .if1 .left)) (c .before .before .before .before .before .before .item-place .ensures) (c .before .before .before .before .if3 .left) in
+returns-3 : tie.Need-returns-3
+returns-3 c =
+    let p = c .before .before .before .before .before .before .before .before in
+    let s = ac-stands (p .args .levels .now) (p .args .i) _ (p .pre .0) (c .before .before .before .before .before .before .item-place .ensures) (c .before .before .before .before .if2 .left) in
     rw (s .bytes) (c .before .before .put-list3 .ensures)
 
 pub put-item-spec : {M : Type 1} → statement M
@@ -69,15 +54,13 @@ put-item-spec =
     tie.close
     (tie.spec
     (λ c κs. search needs)
-    returns
-    (λ c κs. search needs)
     put-list-requires
     (λ c. search needs)
-    returns-2
+    returns
     put-list-requires-2
     (λ c. search needs)
-    returns-3
+    returns-2
     add-put-list
     put-list-requires-3
     (λ c. search needs)
-    returns-4)
+    returns-3)
