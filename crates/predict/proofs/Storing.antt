@@ -16,10 +16,10 @@ use mir.Facts.{toZ-ofZ}
 use lib.ListN.{length, getD, set}
 use Rattle.ints.specs.Z.{if_then_else_}
 use Rattle.ints.proofs.Fits.{read, if-yes, if-no}
-use Rattle.picture.specs.Rows.{row}
-use Rattle.picture.specs.Painted.{within, inside, painted}
+use Rattle.picture.specs.Rows.{row, rows}
+use Rattle.picture.specs.Painted.{within, inside, painted, Inside}
 use Rattle.picture.specs.Picture.{cellCount, always, filled}
-use Rattle.picture.proofs.Laws.{more, row-more, each-at, painted-length, within-true, within-in}
+use Rattle.picture.proofs.Laws.{more, row-more, rows-more, each-at, painted-length, within-true, within-in}
 use Rattle.predict.proofs.Tests.{and-left, and-right, same-test}
 use Rattle.predict.specs.Predict.{Field, vector, cellAt, nearAt}
 pub use Rattle.predict.specs.Window.{FieldSized}
@@ -43,6 +43,18 @@ pair-more l₀ at vx vy k e =
     let two = row-more l₀ at (pairOf vx vy 0) (2 * k + 1) one (sym (pair-odd vx vy 0 k)) in
     let n : 2 * k + 1 + 1 ≡ 2 * (k + 1) = omega arith in
     rw (add-assoc at (2 * k) 1) (two ∙ ap (row l₀ at (pairOf vx vy 0)) n)
+
+-- a turn of the loop over rows: row r begins at twice its first cell
+pub pairs-more : {l l′ : List ℤ} (l₀ : List ℤ) (s x y : ℕ) (vx vy : ℤ) (w r : ℕ) → l ≡ rows l₀ (2 * s) (2 * x) y (pairOf vx vy) (2 * w) r → l′ ≡ row l (2 * ((y + r) * s + x)) (pairOf vx vy 0) (2 * w)
+    → l′ ≡ rows l₀ (2 * s) (2 * x) y (pairOf vx vy) (2 * w) (r + 1)
+unfolding pairOf
+pairs-more {l} l₀ s x y vx vy w r e f =
+    let p : 2 * ((y + r) * s + x) ≡ (y + r) * (2 * s) + 2 * x = omega arith in
+    rows-more l₀ (2 * s) (2 * x) y (pairOf vx vy) (2 * w) r e (f ∙ ap (λ k. row l k (pairOf vx vy 0) (2 * w)) p)
+
+-- the numbers of cells that lie inside lie inside
+pub pairs-inside : {s x y w h n m : ℕ} → m ≡ 2 * n → Inside s x y w h n → Inside (2 * s) (2 * x) y (2 * w) h m
+pairs-inside {s} {x} {y} {w} {h} e i = record { some = omega arith; across = omega arith; down = omega arith }
 
 -- what was passed on is what was meant
 pub stored-read : {l : List ℤ} (mv : List ℤ) (s x y w h : ℕ) {vx vy : ℤ} → SFits w32 vx → SFits w32 vy → l ≡ storedVectors mv s x y w h (read w32 vx) (read w32 vy) → l ≡ storedVectors mv s x y w h vx vy

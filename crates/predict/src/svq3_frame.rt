@@ -5,6 +5,7 @@ ghost use lib.IntN.{pos, natAbs, _*ℤ_};
 ghost use lib.ListN.{length};
 ghost use Rattle.ints.specs.Z.{satZ, overZ};
 ghost use Rattle.picture.specs.Painted.{Inside};
+ghost use Rattle.picture.specs.Picture.{always};
 ghost use Rattle.picture.specs.Rows.{row};
 ghost use Rattle.predict.specs.Predict.{orElse, vectorOf, present, medianOf, combined, heldIn};
 ghost use Rattle.predict.specs.Units.{roundToSixths, convertPredictor, storedScale, storedPart, clippedPart};
@@ -13,7 +14,6 @@ use ints::clamp_i64;
 use ints::median3;
 use ints::sat_add;
 use ints::sat_mul;
-use picture::rows::fill;
 use vectors::svq3_mb::Svq3MvPrecision;
 
 // A component of a stored vector or of its predictor.
@@ -175,9 +175,22 @@ fn fill_vectors_row(mv: &mut [i32], at: usize, n: usize, vx: i32, vy: i32)
     }
 }
 
-// The vector to wide × high cells from column x of row y on.
-fn fill_vectors(
+// 1 at n cells, from cell `at` on.
+fn mark_row(marks: &mut [u8], at: usize, n: usize)
+    requires { ⌜ at + n ≤ length (now marks) ⌝ }
+    ensures { λ _. ⌜ now (marks .exit) ≡ row (now (marks .entry)) at (always 1 0) n ⌝ }
+{
+    let mut c = 0;
+    while c < n {
+        marks[at + c] = 1;
+        c += 1;
+    }
+}
+
+// The vector, marked 1, to wide × high cells from column x of row y on; rows have `stride` cells.
+fn store_rows(
     mv: &mut [i32],
+    marks: &mut [u8],
     stride: usize,
     x: usize,
     y: usize,
@@ -186,18 +199,20 @@ fn fill_vectors(
     vx: i32,
     vy: i32,
 )
-    requires { ⌜ (stride ≤ 16384) × Inside (2 * stride) (2 * x) y (2 * wide) high (length (now mv)) ⌝ }
+    requires { ⌜ (stride ≤ 16384) × (length (now mv) ≡ 2 * length (now marks)) × Inside stride x y wide high (length (now marks)) ⌝ }
     ensures { λ _. ⌜ now (mv .exit) ≡ storedVectors (now (mv .entry)) stride x y wide high vx vy ⌝ }
+    ensures { λ _. ⌜ now (marks .exit) ≡ storedMarks (now (marks .entry)) stride x y wide high ⌝ }
 {
-    let numbers = 2 * stride;
     let mut r = 0;
     while r < high {
-        fill_vectors_row(mv, (y + r) * numbers + 2 * x, wide, vx, vy);
+        let at = (y + r) * stride + x;
+        fill_vectors_row(mv, 2 * at, wide, vx, vy);
+        mark_row(marks, at, wide);
         r += 1;
     }
 }
 
-// The vector, marked 1, to wide × high cells from column x of row y on; rows have `stride` cells.
+// The same, with the widths of partitions known to the compiler.
 pub fn store_cells(
     mv: &mut [i32],
     marks: &mut [u8],
@@ -213,8 +228,15 @@ pub fn store_cells(
     ensures { λ _. ⌜ now (mv .exit) ≡ storedVectors (now (mv .entry)) stride x y wide high vx vy ⌝ }
     ensures { λ _. ⌜ now (marks .exit) ≡ storedMarks (now (marks .entry)) stride x y wide high ⌝ }
 {
-    fill_vectors(mv, stride, x, y, wide, high, vx, vy);
-    fill(marks, stride, x, y, wide, high, 1);
+    if wide == 4 {
+        store_rows(mv, marks, stride, x, y, 4, high, vx, vy);
+    } else if wide == 2 {
+        store_rows(mv, marks, stride, x, y, 2, high, vx, vy);
+    } else if wide == 1 {
+        store_rows(mv, marks, stride, x, y, 1, high, vx, vy);
+    } else {
+        store_rows(mv, marks, stride, x, y, wide, high, vx, vy);
+    }
 }
 
 // The vector, marked 1, to the cells of a partition, in a picture of `cols` macroblocks a row.
