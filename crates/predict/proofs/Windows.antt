@@ -5,7 +5,7 @@ use mathlib.Core.Bool.{Bool, true, false, cond, _||_, _&&_, true≢false}
 use mathlib.Core.Logic.{_≢_}
 use mathlib.Core.List.{List}
 use Prim.Native.Nat.{ℕ, zero, suc, _+_, _-_, _*_, _≤_, _<_}
-use native.Mathlib.Nat.{suc-mul, add-assoc, add-comm}
+use native.Mathlib.Nat.{suc-mul, add-assoc, add-comm, add-zero}
 use native.Mathlib.Numerals.{sub-one, one-add}
 use native.Mathlib.Omega.{arith}
 use borrow.Author.Tests.{ne-eqb, eqb-false, ltb-true, ltb-false, lt-ltb, le-ltb}
@@ -17,12 +17,13 @@ use Rattle.ints.specs.Z.{if_then_else_}
 use Rattle.ints.proofs.Fits.{if-yes, if-no}
 use Rattle.picture.specs.Painted.{within}
 use Rattle.picture.specs.Picture.{Within}
-use Rattle.picture.proofs.Laws.{within-true, within-in}
+use Rattle.picture.specs.Rows.{row}
+use Rattle.picture.proofs.Laws.{row-length, row-same, row-other, within-true, within-in}
 use Rattle.predict.specs.Predict.{Field, fieldOf, vector, cellAt, nearAt, leftOf, aboveOf, aboveLeftOf, orElse, combined, predicted}
 use Rattle.predict.specs.Stored.{storedVectors, storedMarks, storedField}
 use Rattle.predict.proofs.Tests.{neither, same-test}
 use Rattle.predict.proofs.Storing.{shown, vectors-length, marks-length, stored-cell, FieldSized, near-stored}
-use Rattle.predict.specs.Window.{Seen, Part}
+use Rattle.predict.specs.Window.{Window, Seen, Part}
 use Rattle.predict.specs.declared.svq3_frame.Near.the-variants.{Missing, Here}
 
 -- ---- off the picture, as the code tests it
@@ -45,6 +46,10 @@ pub on-place : (x y s n : ℕ) → 1 ≤ x → 1 ≤ y → x ≤ s → y * s ≤
 on-place x zero s n a b c d = absurd (omega arith)
 on-place x (suc y) s n a b c d = rw (sub-one (suc y)) (omega (arith, suc-mul y s))
 
+-- and so do six that begin left of a macroblock
+pub whole-place : (cols column y n : ℕ) → 0 < column → 0 < y → column + 1 < cols → y * (4 * cols) ≤ n → (y - 1) * (4 * cols) + (4 * column - 1) + 6 ≤ n
+whole-place cols column y n a b l h = omega (arith, on-place (4 * column + 5) y (4 * cols) n (omega arith) b (omega arith) h)
+
 module _ (cols rows : ℕ) (mv : List ℤ) (marks : List ℕ) where
   pub off-missing : (x y : ℕ) → off cols x y ≡ true → aboveLeftOf (fieldOf cols rows mv marks) x y ≡ Missing
   unfolding aboveLeftOf leftOf nearAt
@@ -59,6 +64,60 @@ module _ (cols rows : ℕ) (mv : List ℤ) (marks : List ℕ) where
   on-shows x zero a b c d = absurd (omega arith)
   on-shows zero (suc y) a b c d = absurd (omega arith)
   on-shows (suc x) (suc y) a b c d = rw (sub-one (suc x), sub-one (suc y)) (if-yes _ _ _ (rw (lt-ltb x (4 * cols) c, lt-ltb y (4 * rows) d) refl))
+
+  -- a row whose six cells all lie on it
+  pub whole-shows : (column y c : ℕ) → 0 < column → 0 < y → column + 1 < cols → y ≤ 4 * rows → c < 6
+      → cellAt mv marks ((y - 1) * (4 * cols) + (4 * column - 1) + c) ≡ aboveLeftOf (fieldOf cols rows mv marks) (4 * column + c) y
+  whole-shows column y c a b l h lc =
+      let i : (y - 1) * (4 * cols) + (4 * column - 1) + c ≡ (y - 1) * (4 * cols) + (4 * column + c - 1) = omega arith in
+      ap (cellAt mv marks) i ∙ sym (on-shows (4 * column + c) y (omega arith) b (omega arith) h)
+
+-- ---- six cells copied
+module _ (near : List ℤ) (marked : List ℕ) (mv : List ℤ) (marks : List ℕ) (from at : ℕ) where
+  abbrev number : ℕ → ℤ
+  number k = getD mv (2 * from + k) (pos 0)
+
+  abbrev mark : ℕ → ℕ
+  mark k = getD marks (from + k) 0
+
+  abbrev numbers : List ℤ
+  numbers = row near (2 * at) number 12
+
+  abbrev cells : List ℕ
+  cells = row marked at mark 6
+
+  copied-number : (c e : ℕ) → c < 6 → e < 2 → 2 * at + 12 ≤ length near → getD numbers (2 * (at + c) + e) (pos 0) ≡ getD mv (2 * (from + c) + e) (pos 0)
+  copied-number c e lc le h =
+      let i : 2 * (at + c) + e ≡ 2 * at + (2 * c + e) = omega arith in
+      let j : 2 * from + (2 * c + e) ≡ 2 * (from + c) + e = omega arith in
+      ap (λ n. getD numbers n (pos 0)) i ∙ row-same near (2 * at) number 12 (2 * c + e) (pos 0) (omega arith) h ∙ ap (λ n. getD mv n (pos 0)) j
+
+  copied-shows : (c : ℕ) → c < 6 → at + 6 ≤ length marked → 2 * at + 12 ≤ length near → cellAt numbers cells (at + c) ≡ cellAt mv marks (from + c)
+  unfolding cellAt
+  copied-shows c lc h l =
+      let m = row-same marked at mark 6 c 0 lc h in
+      let x = simp add-zero at (copied-number c 0 lc (omega arith) l) in
+      let y = copied-number c 1 lc (omega arith) l in
+      λ i. shown (m i) (x i) (y i)
+
+  copied-before : (j : ℕ) → j < at → cellAt numbers cells j ≡ cellAt near marked j
+  unfolding cellAt
+  copied-before j lt =
+      let m = row-other marked at mark 6 j 0 (λ k h. omega arith) in
+      let x = row-other near (2 * at) number 12 (2 * j) (pos 0) (λ k h. omega arith) in
+      let y = row-other near (2 * at) number 12 (2 * j + 1) (pos 0) (λ k h. omega arith) in
+      λ i. shown (m i) (x i) (y i)
+
+  -- THE WINDOW afterwards
+  pub copied-row : {near′ : List ℤ} {marked′ : List ℕ} → near′ ≡ numbers → marked′ ≡ cells → Window near marked → at + 6 ≤ 30
+      → Window near′ marked′
+      × ((c : ℕ) → c < 6 → cellAt near′ marked′ (at + c) ≡ cellAt mv marks (from + c))
+      × ((j : ℕ) → j < at → cellAt near′ marked′ j ≡ cellAt near marked j)
+  copied-row e f w h = (
+    record { numbers = ap length e ∙ row-length near (2 * at) number 12 ∙ w .numbers; cells = ap length f ∙ row-length marked at mark 6 ∙ w .cells },
+    (λ c lc. ap₂ (λ a b. cellAt a b (at + c)) e f ∙ copied-shows c lc (omega arith) (omega arith)),
+    (λ j lt. ap₂ (λ a b. cellAt a b j) e f ∙ copied-before j lt),
+  )
 
 -- ---- cell k written: its mark alone, or all of it
 module _ (mv : List ℤ) (marks : List ℕ) (k : ℕ) where

@@ -1,10 +1,13 @@
 // The cells that the partitions of a macroblock see, copied: so reading a macroblock changes no lent vector or mark.
 // The window has 6 × 5 cells by rows: the macroblock's 4 × 4, a column on either side and a row above.
 ghost use mathlib.Core.Path.{_≡_};
+ghost use mathlib.Core.Bool.{true};
 ghost use Prim.Native.Nat.{ℕ, _+_, _*_, _≤_, _<_};
-ghost use lib.ListN.{length};
+ghost use lib.IntN.{pos};
+ghost use lib.ListN.{length, getD};
 ghost use Rattle.picture.specs.Painted.{Inside};
 ghost use Rattle.picture.specs.Picture.{Within};
+ghost use Rattle.picture.specs.Rows.{row};
 ghost use Rattle.predict.specs.Predict.{Field, fieldOf, cellAt, aboveLeftOf, predictor};
 ghost use Rattle.predict.specs.Stored.{storedVectors, storedMarks};
 ghost use Rattle.predict.specs.Window.{Window, Seen, Part};
@@ -44,8 +47,8 @@ fn load_cell(
     near[2 * k + 1] = mv[2 * i + 1];
 }
 
-// The row above y, from the column left of the macroblock on, as the six cells from `at` on.
-fn load_row(
+// The row above y, from the column left of the macroblock on, as the six cells from `at` on: cell by cell.
+fn load_cells(
     near: &mut [i32; 60],
     marked: &mut [u8; 30],
     mv: &[i32],
@@ -68,6 +71,58 @@ fn load_row(
     }
 }
 
+// Six marks from cell `from` on, as those of the six cells from `at` on.
+fn copy_marks(marked: &mut [u8; 30], marks: &[u8], from: usize, at: usize)
+    requires { ⌜ (at + 6 ≤ 30) × (from + 6 ≤ length (now marks)) ⌝ }
+    ensures { λ _. ⌜ now (marked .exit) ≡ row (now (marked .entry)) at (λ c. getD (now (marks .entry)) (from + c) 0) 6 ⌝ }
+{
+    let mut c = 0;
+    while c < 6 {
+        marked[at + c] = marks[from + c];
+        c += 1;
+    }
+}
+
+// Twelve numbers from `from` on, to `at` and on.
+fn copy_vectors(near: &mut [i32; 60], mv: &[i32], from: usize, at: usize)
+    requires { ⌜ (at + 12 ≤ 60) × (from + 12 ≤ length (now mv)) ⌝ }
+    ensures { λ _. ⌜ now (near .exit) ≡ row (now (near .entry)) at (λ c. getD (now (mv .entry)) (from + c) (pos 0)) 12 ⌝ }
+{
+    let mut c = 0;
+    while c < 12 {
+        near[at + c] = mv[from + c];
+        c += 1;
+    }
+}
+
+// The row above y, from the column left of the macroblock on, as the six cells from `at` on; `whole` says that all six lie on the picture.
+fn load_row(
+    near: &mut [i32; 60],
+    marked: &mut [u8; 30],
+    mv: &[i32],
+    marks: &[u8],
+    cols: usize,
+    column: usize,
+    y: usize,
+    at: usize,
+    whole: bool,
+)
+    requires { ⌜ Window (now near) (now marked) × (at + 6 ≤ 30) ⌝ }
+    requires { ⌜ (cols ≤ 4096) × (column < cols) × (length (now mv) ≡ 2 * length (now marks)) × (y * (4 * cols) ≤ length (now marks)) ⌝ }
+    requires { ⌜ (whole ≡ true → (0 < column) × (0 < y) × (column + 1 < cols)) ⌝ }
+    ensures { λ _. ⌜ Window (now (near .exit)) (now (marked .exit)) ⌝ }
+    ensures { λ _. ⌜ ((rows : ℕ) → y ≤ 4 * rows → (c : ℕ) → c < 6 → cellAt (now (near .exit)) (now (marked .exit)) (at + c) ≡ aboveLeftOf (fieldOf cols rows (now (mv .entry)) (now (marks .entry))) (4 * column + c) y) ⌝ }
+    ensures { λ _. ⌜ ((j : ℕ) → j < at → cellAt (now (near .exit)) (now (marked .exit)) j ≡ cellAt (now (near .entry)) (now (marked .entry)) j) ⌝ }
+{
+    if whole {
+        let from = (y - 1) * (4 * cols) + (4 * column - 1);
+        copy_marks(marked, marks, from, at);
+        copy_vectors(near, mv, 2 * from, 2 * at);
+    } else {
+        load_cells(near, marked, mv, marks, cols, column, y, at);
+    }
+}
+
 // The window of a macroblock, in a picture of any number of rows that has it.
 pub fn load_neighbours(
     near: &mut [i32; 60],
@@ -82,9 +137,20 @@ pub fn load_neighbours(
     requires { ⌜ (cols ≤ 4096) × (length (now mv) ≡ 2 * length (now marks)) × Inside (4 * cols) (4 * column) (4 * row) 4 4 (length (now marks)) ⌝ }
     ensures { λ _. ⌜ ((rows : ℕ) → row < rows → Seen (fieldOf cols rows (now (mv .entry)) (now (marks .entry))) column row (now (near .exit)) (now (marked .exit))) ⌝ }
 {
+    let whole = (0 < column) & (0 < row) & (column + 1 < cols);
     let mut r = 0;
     while r < 5 {
-        load_row(near, marked, mv, marks, cols, column, 4 * row + r, r * 6);
+        load_row(
+            near,
+            marked,
+            mv,
+            marks,
+            cols,
+            column,
+            4 * row + r,
+            r * 6,
+            whole,
+        );
         r += 1;
     }
 }

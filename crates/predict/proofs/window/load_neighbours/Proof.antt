@@ -4,19 +4,20 @@ use Prim.Native.Nat.{ℕ, _+_, _-_, _*_, _^_, _<_, _≤_}
 use native.Mathlib.Nat.{mul-le-mul-right, le-trans}
 use native.Mathlib.Omega.{arith}
 use borrow.Author.Count.{below-more}
-use Rattle.picture.proofs.Laws.{inside-row}
+use borrow.Author.Tests.{ltb-true}
+use Rattle.picture.proofs.Laws.{inside-row, both-true}
 use Rattle.predict.specs.Predict.{fieldOf, cellAt, aboveLeftOf}
 use Rattle.predict.specs.Window.{Window}
 use Rattle.predict.proofs.window.load_neighbours.Statement.{statement}
 use Rattle.predict.proofs.window.load_neighbours.Tie as tie
 
 abbrev Inv-loop : tie.InvT-loop
-Inv-loop near₀ marked₀ mv marks cols column row r₀ near marked r =
+Inv-loop near₀ marked₀ mv marks cols column row whole r₀ near marked r =
     (r ≤ 5) × Window near marked
     × ((rows : ℕ) → row < rows → (q : ℕ) → q < r → (c : ℕ) → c < 6 → cellAt near marked (q * 6 + c) ≡ aboveLeftOf (fieldOf cols rows mv marks) (4 * column + c) (4 * row + q))
 
 abbrev μ-loop : tie.MeasureT-loop
-μ-loop near₀ marked₀ mv marks cols column row r₀ near marked r = 5 - r
+μ-loop near₀ marked₀ mv marks cols column row whole r₀ near marked r = 5 - r
 
 loop-holds : tie.Need-loop-holds Inv-loop μ-loop
 loop-holds c = (omega arith, c .before .pre .0, (λ rows l q h. absurd (omega arith)))
@@ -30,8 +31,16 @@ load-row-requires c κs =
     let l = c .before .before .before in
     let s = l .before .before in
     let i = s .pre .1 .2 in
-    let h : 4 * s .args .row + l .loop .r ≤ 4 * s .args .row + 4 = omega arith in
-    ((l .loop .inv .1, omega arith), (s .pre .1 .0, omega (arith, i .across), s .pre .1 .1, le-trans (mul-le-mul-right (4 * s .args .cols) h) (i .down)))
+    let h : 4 * s .args .row + l .loop .r ≤ 4 * s .args .row + 4 = omega arith in (
+      (l .loop .inv .1, omega arith),
+      (
+        (s .pre .1 .0, omega (arith, i .across), s .pre .1 .1, le-trans (mul-le-mul-right (4 * s .args .cols) h) (i .down)),
+        (λ e.
+            let b = both-true _ _ e in
+            let d = both-true _ _ (b .0) in
+            (ltb-true 0 (s .args .column) (d .0), omega (arith, ltb-true 0 (s .args .row) (d .1)), ltb-true (s .args .column + 1) (s .args .cols) (b .1))),
+      ),
+    )
 
 loop-again : tie.Need-loop-again Inv-loop μ-loop
 loop-again c =
@@ -56,6 +65,7 @@ load-neighbours-spec =
     (tie.spec
     Inv-loop
     μ-loop
+    (λ c. omega (arith, c .before .pre .1 .2 .across))
     loop-holds
     (λ c. omega (arith, small c))
     (λ c. omega (arith, small c))

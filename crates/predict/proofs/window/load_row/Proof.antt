@@ -1,53 +1,45 @@
--- `predict::window::load_row` loads six cells: after c of them, they show the first c, and the cells before show what they did.
-use mathlib.Core.Path.{_≡_, refl, _∙_}
-use Prim.Native.Nat.{ℕ, _+_, _-_, _*_, _<_, _≤_}
+-- `predict::window::load_row` copies a row that lies on the picture, and loads any other cell by cell.
+use mathlib.Core.Path.{_∙_}
+use Prim.Native.Nat.{_+_, _-_, _*_, _<_, _≤_}
 use native.Mathlib.Omega.{arith}
-use borrow.Author.Count.{below-none, below-more}
-use Rattle.predict.specs.Predict.{fieldOf, cellAt, aboveLeftOf}
-use Rattle.predict.specs.Window.{Window}
+use lib.ListN.{length}
+use borrow.Author.Needs.{needs}
+use Rattle.predict.proofs.Windows.{whole-place, whole-shows, copied-row}
 use Rattle.predict.proofs.window.load_row.Statement.{statement}
 use Rattle.predict.proofs.window.load_row.Tie as tie
 
-abbrev Inv-loop : tie.InvT-loop
-Inv-loop near₀ marked₀ mv marks cols column y at c₀ near marked c =
-    (c ≤ 6) × Window near marked
-    × ((rows : ℕ) → y ≤ 4 * rows → (d : ℕ) → d < c → cellAt near marked (at + d) ≡ aboveLeftOf (fieldOf cols rows mv marks) (4 * column + d) y)
-    × ((j : ℕ) → j < at → cellAt near marked j ≡ cellAt near₀ marked₀ j)
+-- the row lies on the picture, and its six cells in the list
+lies : (c : tie.Then1) → let a = c .before .before .args in (0 < a .column) × (0 < a .y) × (a .column + 1 < a .cols) × ((a .y - 1) * (4 * a .cols) + (4 * a .column - 1) + 6 ≤ length (a .marks .now))
+lies c =
+    let s = c .before .before in
+    let a = s .args in
+    let w = s .pre .1 .1 (c .if1 .taken) in
+    (w .0, w .1, w .2, whole-place (a .cols) (a .column) (a .y) (length (a .marks .now)) (w .0) (w .1) (w .2) (s .pre .1 .0 .3))
 
-abbrev μ-loop : tie.MeasureT-loop
-μ-loop near₀ marked₀ mv marks cols column y at c₀ near marked c = 6 - c
-
-loop-holds : tie.Need-loop-holds Inv-loop μ-loop
-loop-holds c = (omega arith, c .before .pre .0 .0, (λ rows l. below-none _), (λ j l. refl))
-
-load-cell-requires : tie.Need-load-cell-requires Inv-loop μ-loop
-load-cell-requires c κs =
-    let s = c .before .before .before .before .before in
-    ((c .before .before .before .loop .inv .1, omega arith), (s .pre .1 .0, s .pre .1 .2, s .pre .1 .3))
-
-loop-again : tie.Need-loop-again Inv-loop μ-loop
-loop-again c =
-    let l = c .before .before .before .before .loop in
-    let e = c .load-cell .ensures in
-    (omega arith, e .0, (λ rows h. below-more _ (l .c) (λ d lt. e .1 .1 (c .before .before .before .before .before .before .args .at + d) (omega arith) ∙ l .inv .2 rows h d lt) (e .1 .0 rows h)), (λ j lt. e .1 .1 j (omega arith) ∙ l .inv .3 j lt))
-
-returns : tie.Need-returns Inv-loop μ-loop
+returns : tie.Need-returns
 returns c =
-    let l = c .before .loop in
-    (l .inv .1, ((λ rows h d lt. l .inv .2 rows h d (omega arith)), l .inv .3))
+    let m = c .before .before in
+    let t = m .before .before in
+    let s = t .before .before in
+    let a = s .args in
+    let w = lies t in
+    let r = copied-row (a .near .now) (a .marked .now) (a .mv .now) (a .marks .now) ((a .y - 1) * (4 * a .cols) + (4 * a .column - 1)) (a .at) (c .copy-vectors .ensures) (m .copy-marks .ensures) (s .pre .0 .0) (s .pre .0 .1) in
+    (r .0, ((λ rows h k lk. r .1 k lk ∙ whole-shows (a .cols) rows (a .mv .now) (a .marks .now) (a .column) (a .y) k (w .0) (w .1) (w .2) h lk), r .2))
 
 pub load-row-spec : {M : Type 1} → statement M
 load-row-spec =
     tie.close
     (tie.spec
-    Inv-loop
-    μ-loop
-    loop-holds
+    (λ c. lies c .1)
     (λ c. omega arith)
+    (λ c. omega (arith, lies c))
     (λ c. omega arith)
+    (λ c. omega (arith, lies c))
+    (λ c. omega (arith, lies c))
+    (λ c κs. (c .before .before .before .pre .0 .1, lies (c .before) .3))
+    (λ c. omega (arith, lies (c .before .before .before)))
     (λ c. omega arith)
-    load-cell-requires
-    (λ c. omega arith)
-    (λ c. omega arith)
-    loop-again
-    returns)
+    (λ c κs. (omega arith, omega (arith, lies (c .before .before .before))))
+    (λ c κs. let s = c .before .before .before .before in (s .pre .0, s .pre .1 .0))
+    returns
+    (λ c. c .load-cells .ensures))
