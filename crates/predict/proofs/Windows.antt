@@ -46,9 +46,9 @@ pub on-place : (x y s n : ℕ) → 1 ≤ x → 1 ≤ y → x ≤ s → y * s ≤
 on-place x zero s n a b c d = absurd (omega arith)
 on-place x (suc y) s n a b c d = rw (sub-one (suc y)) (omega (arith, suc-mul y s))
 
--- and so do six that begin left of a macroblock
-pub whole-place : (cols column y n : ℕ) → 0 < column → 0 < y → column + 1 < cols → y * (4 * cols) ≤ n → (y - 1) * (4 * cols) + (4 * column - 1) + 6 ≤ n
-whole-place cols column y n a b l h = omega (arith, on-place (4 * column + 5) y (4 * cols) n (omega arith) b (omega arith) h)
+-- and so do a macroblock's columns and the next one's
+pub whole-place : (cols column y n : ℕ) → 0 < y → column + 1 < cols → y * (4 * cols) ≤ n → (y - 1) * (4 * cols) + (4 * column + 8) ≤ n
+whole-place cols column y n b l h = omega (arith, on-place (4 * column + 8) y (4 * cols) n (omega arith) b (omega arith) h)
 
 module _ (cols rows : ℕ) (mv : List ℤ) (marks : List ℕ) where
   pub off-missing : (x y : ℕ) → off cols x y ≡ true → aboveLeftOf (fieldOf cols rows mv marks) x y ≡ Missing

@@ -8,13 +8,13 @@ use Rattle.predict.proofs.Windows.{whole-place, whole-shows, copied-row
 use Rattle.predict.proofs.window.load_row.Statement.{statement}
 use Rattle.predict.proofs.window.load_row.Tie as tie
 
--- the row lies on the picture, and its six cells in the list
-lies : (c : tie.Then1) → let a = c .before .before .args in (0 < a .column) × (0 < a .y) × (a .column + 1 < a .cols) × ((a .y - 1) * (4 * a .cols) + (4 * a .column - 1) + 6 ≤ length (a .marks .now))
+-- the row lies on the picture: it has the cells of the next macroblock too
+lies : (c : tie.Then1) → let a = c .before .before .args in (0 < a .column) × (0 < a .y) × (a .column + 1 < a .cols) × ((a .y - 1) * (4 * a .cols) + (4 * a .column + 8) ≤ length (a .marks .now))
 lies c =
     let s = c .before .before in
     let a = s .args in
     let w = s .pre .1 .1 (c .if1 .taken) in
-    (w .0, w .1, w .2, whole-place (a .cols) (a .column) (a .y) (length (a .marks .now)) (w .0) (w .1) (w .2) (s .pre .1 .0 .3))
+    (w .0, w .1, w .2, whole-place (a .cols) (a .column) (a .y) (length (a .marks .now)) (w .1) (w .2) (s .pre .1 .0 .3))
 
 returns : tie.Need-returns
 returns c =
@@ -36,10 +36,10 @@ load-row-spec =
     (λ c. omega arith)
     (λ c. omega (arith, lies c))
     (λ c. omega (arith, lies c))
-    (λ c κs. (c .before .before .before .pre .0 .1, lies (c .before) .3))
+    (λ c κs. omega (arith, lies (c .before)))
     (λ c. omega (arith, lies (c .before .before .before)))
     (λ c. omega arith)
-    (λ c κs. (omega arith, omega (arith, lies (c .before .before .before))))
+    (λ c κs. omega (arith, lies (c .before .before .before)))
     (λ c κs. let s = c .before .before .before .before in (s .pre .0, s .pre .1 .0))
     returns
     (λ c. c .load-cells .ensures))
