@@ -1,11 +1,13 @@
 -- Each pair of phases has its mix: weights of the sum 12 give the formula, and one 3 with another phase is a blend.
 -- Assumes nothing.
-use mathlib.Core.Path.{refl}
-use Prim.Native.Nat.{ℕ, zero, suc, _<_}
+use mathlib.Core.Path.{_≡_, refl, sym, ap, subst, _∙_}
+use Prim.Native.Nat.{ℕ, zero, suc, _/_, _%_, _<_, _≤_}
 use native.Mathlib.Omega.{arith}
+use borrow.Author.Tests.{le-leb, lt-leb}
 use Rattle.ints.specs.Z.{if_then_else_}
 use Rattle.compensation.specs.Formula.{along, third2d, formula}
-use Rattle.compensation.specs.Kernel.{weighed, blended, mixed, MixFor}
+use Rattle.compensation.specs.Kernel.{weighed, blended, mixed, MixFor, way, mixes, mixCode, mixSaid}
+use Rattle.compensation.specs.declared.kernel.Mix.{Mix}
 use Rattle.compensation.specs.declared.kernel.Mix.the-variants.{Weigh, Across, Down}
 
 -- the phases 1 and 2, and 4 and 5
@@ -103,3 +105,78 @@ high-high =
     high (λ f. (py : ℕ) → 3 < py → py < 6 → MixFor f py (Weigh 2 3 3 4))
     (high (λ g. MixFor 4 g (Weigh 2 3 3 4)) (record { even = refl; is = λ a b c d. omega arith }) (record { even = refl; is = λ a b c d. omega arith }))
     (high (λ g. MixFor 5 g (Weigh 2 3 3 4)) (record { even = refl; is = λ a b c d. omega arith }) (record { even = refl; is = λ a b c d. omega arith }))
+
+-- ---- all of them
+six : (P : ℕ → Type 0) → P 0 → P 1 → P 2 → P 3 → P 4 → P 5 → (f : ℕ) → f < 6 → P f
+six P a b c d e g zero h = a
+six P a b c d e g (suc zero) h = b
+six P a b c d e g (suc (suc zero)) h = c
+six P a b c d e g (suc (suc (suc zero))) h = d
+six P a b c d e g (suc (suc (suc (suc zero)))) h = e
+six P a b c d e g (suc (suc (suc (suc (suc zero))))) h = g
+six P a b c d e g (suc (suc (suc (suc (suc (suc f)))))) h = absurd (omega arith)
+
+-- the code of two phases says their mix
+pub said-for : (px : ℕ) → px < 6 → (py : ℕ) → py < 6 → MixFor px py (mixSaid (mixCode px py))
+unfolding mixSaid mixCode mixes way if_then_else_
+said-for =
+    six (λ px. (py : ℕ) → py < 6 → MixFor px py (mixSaid (mixCode px py)))
+    (six (λ py. MixFor 0 py (mixSaid (mixCode 0 py)))
+    none
+    (down-low 1 (omega arith) (omega arith))
+    (down-low 2 (omega arith) (omega arith))
+    half-down
+    (down-high 4 (omega arith) (omega arith))
+    (down-high 5 (omega arith) (omega arith)))
+    (six (λ py. MixFor 1 py (mixSaid (mixCode 1 py)))
+    (across-low 1 (omega arith) (omega arith))
+    (low-low 1 (omega arith) (omega arith) 1 (omega arith) (omega arith))
+    (low-low 1 (omega arith) (omega arith) 2 (omega arith) (omega arith))
+    (half-down-low 1 (omega arith) (omega arith))
+    (low-high 1 (omega arith) (omega arith) 4 (omega arith) (omega arith))
+    (low-high 1 (omega arith) (omega arith) 5 (omega arith) (omega arith)))
+    (six (λ py. MixFor 2 py (mixSaid (mixCode 2 py)))
+    (across-low 2 (omega arith) (omega arith))
+    (low-low 2 (omega arith) (omega arith) 1 (omega arith) (omega arith))
+    (low-low 2 (omega arith) (omega arith) 2 (omega arith) (omega arith))
+    (half-down-low 2 (omega arith) (omega arith))
+    (low-high 2 (omega arith) (omega arith) 4 (omega arith) (omega arith))
+    (low-high 2 (omega arith) (omega arith) 5 (omega arith) (omega arith)))
+    (six (λ py. MixFor 3 py (mixSaid (mixCode 3 py)))
+    half-across
+    (half-across-low 1 (omega arith) (omega arith))
+    (half-across-low 2 (omega arith) (omega arith))
+    half-both
+    (half-across-high 4 (omega arith) (omega arith))
+    (half-across-high 5 (omega arith) (omega arith)))
+    (six (λ py. MixFor 4 py (mixSaid (mixCode 4 py)))
+    (across-high 4 (omega arith) (omega arith))
+    (high-low 4 (omega arith) (omega arith) 1 (omega arith) (omega arith))
+    (high-low 4 (omega arith) (omega arith) 2 (omega arith) (omega arith))
+    (half-down-high 4 (omega arith) (omega arith))
+    (high-high 4 (omega arith) (omega arith) 4 (omega arith) (omega arith))
+    (high-high 4 (omega arith) (omega arith) 5 (omega arith) (omega arith)))
+    (six (λ py. MixFor 5 py (mixSaid (mixCode 5 py)))
+    (across-high 5 (omega arith) (omega arith))
+    (high-low 5 (omega arith) (omega arith) 1 (omega arith) (omega arith))
+    (high-low 5 (omega arith) (omega arith) 2 (omega arith) (omega arith))
+    (half-down-high 5 (omega arith) (omega arith))
+    (high-high 5 (omega arith) (omega arith) 4 (omega arith) (omega arith))
+    (high-high 5 (omega arith) (omega arith) 5 (omega arith) (omega arith)))
+
+-- ---- what a code says
+pub said-across : (m : ℕ) → 61440 ≤ m → mixSaid m ≡ Across (m % 16) (m / 16 % 16)
+unfolding mixSaid if_then_else_
+said-across m h = rw (le-leb 61440 m h) refl
+
+pub said-down : (m : ℕ) → 57344 ≤ m → m < 61440 → mixSaid m ≡ Down (m % 16) (m / 16 % 16)
+unfolding mixSaid if_then_else_
+said-down m h l = rw (lt-leb 61440 m l, le-leb 57344 m h) refl
+
+pub said-weigh : (m : ℕ) → m < 57344 → mixSaid m ≡ Weigh (m % 16) (m / 16 % 16) (m / 256 % 16) (m / 4096)
+unfolding mixSaid if_then_else_
+said-weigh m l = rw (lt-leb 61440 m (omega arith), lt-leb 57344 m l) refl
+
+-- a mix that a number says which is the code of two phases
+pub said-so : (px py m : ℕ) → px < 6 → py < 6 → m ≡ mixCode px py → (mix : Mix) → mixSaid m ≡ mix → MixFor px py mix
+said-so px py m h l e mix s = subst (MixFor px py) (ap mixSaid (sym e) ∙ s) (said-for px h py l)

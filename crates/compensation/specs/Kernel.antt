@@ -2,10 +2,10 @@
 -- The rows of a source are `stride` apart; the taps of place i are i, i + u, i + v and i + u + v.
 -- Assumes nothing.
 use mathlib.Core.Path.{_≡_}
-use mathlib.Core.List.{List}
-use Prim.Native.Nat.{ℕ, _+_, _-_, _*_, _/_, _<_, _≤_, min}
+use mathlib.Core.List.{List, [], _∷_}
+use Prim.Native.Nat.{ℕ, _+_, _-_, _*_, _/_, _%_, _^_, _<_, _≤_, min}
 use mathlib.Core.Bool.{_&&_}
-use lib.Dec.{eqb}
+use lib.Dec.{eqb, leb}
 use lib.IntN.{ℤ, pos, negsuc, natAbs, _+ℤ_}
 use lib.ListN.{getD}
 use Rattle.ints.specs.Z.{if_then_else_, clampZ}
@@ -37,6 +37,25 @@ Even (Down near far) = near + far ≡ 6
 pub record MixFor (px py : ℕ) (mix : Mix) : Type 0 where
   pub even : Even mix
   pub is : (a b c d : ℕ) → mixed mix a b c d ≡ formula px py a b c d
+
+-- how far a phase goes: 0 not at all, 1 a third of the way, 2 half of it, 3 two thirds
+unfoldable pub way : ℕ → ℕ
+way p = 3350800 / 2 ^ (4 * p) % 4
+
+-- by the way down: the codes of the mixes, 16 bits each by the way across
+unfoldable pub mixes : List ℕ
+mixes = 37155135017189388 ∷ 3622002563336111112 ∷ 16159534710855566854 ∷ 4842196716509923332 ∷ []
+
+-- the code of the mix of two phases
+unfoldable pub mixCode : ℕ → ℕ → ℕ
+mixCode px py = getD mixes (way py) 0 / 2 ^ (16 * way px) % 65536
+
+-- the mix that a code says, by its four hexadecimal digits
+unfoldable pub mixSaid : ℕ → Mix
+mixSaid m =
+    if leb 61440 m then Across (m % 16) (m / 16 % 16)
+    else if leb 57344 m then Down (m % 16) (m / 16 % 16)
+    else Weigh (m % 16) (m / 16 % 16) (m / 256 % 16) (m / 4096)
 
 -- a function of the four taps at place i
 unfoldable pub fourAt : (ℕ → ℕ → ℕ → ℕ → ℕ) → List ℕ → ℕ → ℕ → ℕ → ℕ

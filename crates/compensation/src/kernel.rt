@@ -1,11 +1,11 @@
 // The sample loops. The phase is chosen outside them, and every tap lies in the source: no branch and no clamp inside.
 ghost use mathlib.Core.Path.{_≡_};
 ghost use Prim.Native.Nat.{_+_, _*_, _-_, _<_, _≤_};
-ghost use lib.ListN.{length};
+ghost use lib.ListN.{length, getD};
 ghost use Rattle.picture.specs.Painted.{Inside, painted};
 ghost use Rattle.picture.specs.Rows.{row};
 ghost use Rattle.compensation.specs.Formula.{half, formula};
-ghost use Rattle.compensation.specs.Kernel.{weighed, blended, mixed, Even, MixFor, fourAt, fourRow, fourBlock, extra};
+ghost use Rattle.compensation.specs.Kernel.{weighed, blended, mixed, Even, MixFor, way, mixes, mixCode, fourAt, fourRow, fourBlock, extra};
 ghost use Rattle.compensation.specs.Block.{Span};
 use picture::rows::store_row;
 
@@ -199,74 +199,35 @@ fn mix_two(
     }
 }
 
-// A third of the way along one axis: near the first tap for the phases 1 and 2. Phase 0 is the first tap.
-fn mix_across(px: u32) -> Mix
-    requires { ⌜ (px < 6) × (px ≡ 3 → ⊥) ⌝ }
-    ensures { λ r. ⌜ MixFor px 0 r ⌝ }
+// How far a phase goes: 0 not at all, 1 a third of the way, 2 half of it, 3 two thirds.
+fn way_of(p: u32) -> u32
+    requires { ⌜ p < 6 ⌝ }
+    ensures { λ r. ⌜ (r ≡ way p) × (r < 4) ⌝ }
 {
-    if px == 0 {
-        return Mix::Weigh(12, 0, 0, 0);
-    }
-    if px < 3 {
-        return Mix::Weigh(8, 4, 0, 0);
-    }
-    Mix::Weigh(4, 8, 0, 0)
+    (0x33_2110 >> (4 * p)) % 4
 }
 
-fn mix_down(py: u32) -> Mix
-    requires { ⌜ (0 < py) × (py < 6) × (py ≡ 3 → ⊥) ⌝ }
-    ensures { λ r. ⌜ MixFor 0 py r ⌝ }
+// The mixes of a way down, by the way across, the lowest first. A mix has four hexadecimal digits: the weights of the four taps, the first
+// tap's the lowest; or, below e for halfway down and below f for halfway across, the two weights of the sum 6.
+// A look-up, since phases are too many for a processor to foresee them.
+fn mixes_of(down: u32) -> u64
+    requires { ⌜ down < 4 ⌝ }
+    ensures { λ r. ⌜ r ≡ getD mixes down 0 ⌝ }
 {
-    if py < 3 {
-        return Mix::Weigh(8, 0, 4, 0);
+    match down {
+        0 => 0x0084_0066_0048_000c,
+        1 => 0x3243_f024_2334_0408,
+        2 => 0xe042_3333_e024_0606,
+        _ => 0x4332_f042_3423_0804,
     }
-    Mix::Weigh(4, 0, 8, 0)
 }
 
-fn mix_half_across(py: u32) -> Mix
-    requires { ⌜ py < 6 ⌝ }
-    ensures { λ r. ⌜ MixFor 3 py r ⌝ }
+fn mix_code(px: u32, py: u32) -> u32
+    requires { ⌜ (px < 6) × (py < 6) ⌝ }
+    ensures { λ r. ⌜ r ≡ mixCode px py ⌝ }
 {
-    if py == 0 {
-        return Mix::Weigh(6, 6, 0, 0);
-    }
-    if py == 3 {
-        return Mix::Weigh(3, 3, 3, 3);
-    }
-    if py < 3 {
-        return Mix::Across(4, 2);
-    }
-    Mix::Across(2, 4)
-}
-
-fn mix_half_down(px: u32) -> Mix
-    requires { ⌜ (px < 6) × (px ≡ 3 → ⊥) ⌝ }
-    ensures { λ r. ⌜ MixFor px 3 r ⌝ }
-{
-    if px == 0 {
-        return Mix::Weigh(6, 0, 6, 0);
-    }
-    if px < 3 {
-        return Mix::Down(4, 2);
-    }
-    Mix::Down(2, 4)
-}
-
-fn mix_third_2d(px: u32, py: u32) -> Mix
-    requires { ⌜ (0 < px) × (px < 6) × (px ≡ 3 → ⊥) ⌝ }
-    requires { ⌜ (0 < py) × (py < 6) × (py ≡ 3 → ⊥) ⌝ }
-    ensures { λ r. ⌜ MixFor px py r ⌝ }
-{
-    if py < 3 {
-        if px < 3 {
-            return Mix::Weigh(4, 3, 3, 2);
-        }
-        return Mix::Weigh(3, 4, 2, 3);
-    }
-    if px < 3 {
-        return Mix::Weigh(3, 2, 4, 3);
-    }
-    Mix::Weigh(2, 3, 3, 4)
+    let shift = 16 * way_of(px);
+    ((mixes_of(way_of(py)) >> shift) % 65536) as u32
 }
 
 // The mix of two phases.
@@ -274,19 +235,18 @@ pub fn mix_of(px: u32, py: u32) -> Mix
     requires { ⌜ (px < 6) × (py < 6) ⌝ }
     ensures { λ r. ⌜ MixFor px py r ⌝ }
 {
-    if px == 3 {
-        return mix_half_across(py);
+    let code = mix_code(px, py);
+    let a = (code % 16) as u16;
+    let b = (code / 16 % 16) as u16;
+    if 0xf000 <= code {
+        return Mix::Across(a, b);
     }
-    if py == 3 {
-        return mix_half_down(px);
+    if 0xe000 <= code {
+        return Mix::Down(a, b);
     }
-    if py == 0 {
-        return mix_across(px);
-    }
-    if px == 0 {
-        return mix_down(py);
-    }
-    mix_third_2d(px, py)
+    let c = (code / 256 % 16) as u16;
+    let d = (code / 4096) as u16;
+    Mix::Weigh(a, b, c, d)
 }
 
 // How many taps past its samples a block reads, each way.
