@@ -135,15 +135,19 @@ use denote.Exit.{yes}'''
 
 
 def generate(s):
-    crate, module, fn, callee, after = s['crate'], s['module'], s['fn'], s['callee'], s['after']
-    slices, place, fields, values, answer = s['slices'], s['place'], s['fields'], s['values'], s['answer']
+    crate, module, fn = s['crate'], s['module'], s['fn']
+    (callee, *_), (after, *_), (place, place_crate) = s['callee'], s['after'], s['place']
+    slices, fields, values, answer = s['slices'], s['fields'], s['values'], s['answer']
+    # the other functions' crates, and the modules that they stand in there
+    stands = {s[f][0]: s[f][1:] for f in ('callee', 'after')} | {fn: [crate, module]}
     k, nv, nf = len(slices), len(values), len(fields)
     muts = [i for i in range(k) if slices[i][1] == 'mut']
     shared = [i for i in range(k) if slices[i][1] == '&']
     F, G, K = dash(fn), dash(callee), dash(after)
     root = f'Rattle.{crate}.proofs.{module}'
-    key = lambda name: f'#{crate}·{dash(name)}'
-    calls = lambda name: f'code.calls-{crate}·{dash(module)}·{dash(name)}'
+    proofs = lambda name: '.'.join([f'Rattle.{stands[name][0]}.proofs', *stands[name][1:], name])
+    key = lambda name: f'#{stands[name][0]}·{dash(name)}'
+    calls = lambda name: 'code.calls-' + '·'.join(dash(part) for part in [*stands[name], name])
     elem = lambda i: slices[i][2]
     lists = lambda i: 'List ℤ' if elem(i) == 'i32' else 'List ℕ'
     is_struct = lambda j: values[j][1] not in WIDTH
@@ -169,16 +173,15 @@ def generate(s):
     w(USES)
     for u in s['uses']:
         w('use ' + u)
-    w(f'use Rattle.{crate}.specs.declared.{module}.{place}.{{{place}}}')
-    w(f'use {root}.{place} as T\nuse {root}.{place}.Laws as T′')
-    w(f'use {answer[1]}.specs.declared.{answer[0]}.{{{answer[0]}}}'.replace('.specs', '·specs.specs', 1))
-    w(f'use {answer[1]}·proofs.proofs.{answer[0]} as E\nuse {answer[1]}·proofs.proofs.{answer[0]}.Laws as E′')
+    for (name, home), as_name in (((place, place_crate), 'T'), (answer, 'E')):
+        w(f'use Rattle.{home}.specs.declared.{name}.{{{name}}}')
+        w(f'use Rattle.{home}.proofs.{name} as {as_name}\nuse Rattle.{home}.proofs.{name}.Laws as {as_name}′')
     for j in range(nv):
         if is_struct(j):
             w(f'use {values[j][2]}.{{{values[j][1]}}}\nuse {values[j][3]} as {alias(j)}\nuse {values[j][3]}.Laws as {alias(j)}′')
     for name in (callee, after):
         d = dash(name)
-        w(f'use {root}.{name} as {d}\nuse {root}.{name}.Symbol as {d}-def\nuse {root}.{name}.Symbol.{{name as {key(name)}}}\nuse {root}.{name}.Met as {d}-thm')
+        w(f'use {proofs(name)} as {d}\nuse {proofs(name)}.Symbol as {d}-def\nuse {proofs(name)}.Symbol.{{name as {key(name)}}}\nuse {proofs(name)}.Met as {d}-thm')
     w(f'use {root}.{fn}.Key.{{name as {key(fn)}}}\nuse {root}.{fn} as {F}\nuse {root}.{fn}.Statement as stated\nuse {root}.{fn}.Code as code\n')
 
     stays = [(f'stay-none-slice ({i} ∷ []) tt (plain (λ _. {elem(i)})) yes' if i in shared else f'gave-slice ({i} ∷ []) tt (plain (λ _. {elem(i)}))') for i in range(k)]

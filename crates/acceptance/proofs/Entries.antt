@@ -9,18 +9,18 @@ use lib.ListN.{length}
 use lib.Seq.{sets}
 use Rattle.ints.specs.Z.{if_then_else_}
 use Rattle.questions.specs.declared.Call.{Call}
-use Rattle.macroblock.specs.State.{State}
-use Rattle.macroblock.specs.Decode.{decoded}
-use Rattle.macroblock.specs.Entry.{stateOf, left, quantiserBy}
-use Rattle.macroblock.specs.declared.svq3_frame.Frame.{Frame}
-use Rattle.macroblock.specs.declared.MbAnswer.{MbAnswer}
-use Rattle.run.specs.Left.{leftOf, listLeft}
+use Rattle.outcome.specs.State.{State}
+use Rattle.outcome.specs.Decode.{decoded}
+use Rattle.outcome.specs.Entry.{stateOf, left, quantiserBy}
+use Rattle.outcome.specs.declared.Frame.{Frame}
+use Rattle.outcome.specs.declared.MbAnswer.{MbAnswer}
+use Rattle.report.specs.Left.{leftOf, listLeft}
 use Rattle.replay.specs.Replay.{replayLeft, replayed}
-use Rattle.run.specs.declared.Report.{Report}
+use Rattle.report.specs.declared.Report.{Report}
 use Rattle.replay.specs.declared.ReplayAnswer.{ReplayAnswer}
-use Rattle.acceptance.specs.Told.{mbTold, runTold, replayTold}
-use Rattle.acceptance.specs.Entries.{Slices, Ended, ended, startOf, five, two, telling, unlessShort, mbTelling, runTelling, replayTelling, mbEnded, runEnded, replayEnded}
-use Rattle.acceptance.specs.declared.Told.{Told}
+use Rattle.told.specs.Told.{mbTold, runTold, replayTold, five, two}
+use Rattle.acceptance.specs.Entries.{Slices, Ended, ended, startOf, telling, unlessShort, mbTelling, runTelling, replayTelling, mbEnded, runEnded, replayEnded}
+use Rattle.told.specs.declared.Told.{Told}
 
 too-short : (n : ℕ) (s : Slices) (done : Ended) → length (s .counts) < n → record { code = negsuc 0; slices = s } ≡ unlessShort n s done
 unfolding if_then_else_

@@ -1,6 +1,6 @@
 -- What each entry answers, and what it leaves in the slices that it may change.
 -- Assumes nothing.
-use mathlib.Core.List.{List, [], _∷_}
+use mathlib.Core.List.{List}
 use Prim.Native.Nat.{ℕ}
 use lib.Dec.{ltb}
 use lib.IntN.{ℤ, pos, negsuc}
@@ -8,14 +8,14 @@ use lib.ListN.{length}
 use lib.Seq.{sets}
 use Rattle.ints.specs.Z.{if_then_else_}
 use Rattle.questions.specs.declared.Call.{Call}
-use Rattle.macroblock.specs.State.{State}
-use Rattle.macroblock.specs.Decode.{Outcome, decoded}
-use Rattle.macroblock.specs.Entry.{stateOf}
-use Rattle.macroblock.specs.declared.svq3_frame.Frame.{Frame}
-use Rattle.run.specs.Left.{Left, listLeft}
+use Rattle.outcome.specs.State.{State}
+use Rattle.outcome.specs.Decode.{Outcome, decoded}
+use Rattle.outcome.specs.Entry.{stateOf}
+use Rattle.outcome.specs.declared.Frame.{Frame}
+use Rattle.report.specs.Left.{Left, listLeft}
 use Rattle.replay.specs.Replay.{Replay, replayed}
-use Rattle.acceptance.specs.Told.{mbTold, runTold, replayTold}
-use Rattle.acceptance.specs.declared.Told.{Told}
+use Rattle.told.specs.Told.{mbTold, runTold, replayTold, five, two}
+use Rattle.told.specs.declared.Told.{Told}
 
 -- what is lent to be changed; a replay changes no transcript
 pub record Slices : Type 0 where
@@ -44,12 +44,6 @@ callOf column row mode = record { column = column; row = row; mode = mode }
 -- the state that the slices make
 abbrev pub startOf : Frame → ℕ → List ℕ → List ℕ → List ℕ → Slices → State
 startOf frame quantiser ry rcb rcr s = stateOf frame quantiser ry rcb rcr (s .y) (s .cb) (s .cr) (s .mv) (s .marks)
-
-abbrev pub five : Told → List ℕ
-five t = t .a ∷ t .b ∷ t .c ∷ t .d ∷ t .e ∷ []
-
-abbrev pub two : Told → List ℕ
-two t = t .a ∷ t .b ∷ []
 
 -- told t: the counts begin with those written
 abbrev pub telling : Told → State → List ℕ → List ℕ → List ℕ → Ended

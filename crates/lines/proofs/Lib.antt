@@ -1,3 +1,1 @@
-pub mod Headers
 pub mod Texts
-pub mod Lists

@@ -1,3 +1,2 @@
-// The printer's header and list of calls read, and its lines written.
-pub mod header;
+// The printer's lines written.
 pub mod text;

@@ -9,7 +9,7 @@ use cases::head::wide;
 use cases::slices::put_bytes;
 use cases::slices::put_pattern;
 use cases::start::put_block;
-use macroblock::MbAnswer;
+use outcome::MbAnswer;
 use refusal::Refusal;
 use transcript::parse::ParseAnswer;
 use transcript::parse::parse_record;

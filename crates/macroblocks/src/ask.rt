@@ -12,9 +12,9 @@ use cases::slices::within;
 use cases::state::lent_of;
 use cases::state::same_state;
 use cases::state::unpack;
-use macroblock::MbAnswer;
-use macroblock::svq3_frame::Frame;
 use macroblock::svq3_frame::decode_inter_mb;
+use outcome::Frame;
+use outcome::MbAnswer;
 use questions::Call;
 use reading::svq3_frame::Flags;
 
@@ -39,39 +39,7 @@ fn call_of(head: &[u8; 80]) -> Call {
     }
 }
 
-fn decode(
-    y: &mut [u8],
-    cb: &mut [u8],
-    cr: &mut [u8],
-    mv: &mut [i32],
-    marks: &mut [u8],
-    transcript: &mut [u8],
-    ry: &[u8],
-    rcb: &[u8],
-    rcr: &[u8],
-    bits: &[u8],
-    head: &[u8; 80],
-) -> MbAnswer {
-    decode_inter_mb(
-        y,
-        cb,
-        cr,
-        mv,
-        marks,
-        transcript,
-        ry,
-        rcb,
-        rcr,
-        bits,
-        frame_of(head),
-        call_of(head),
-        number_at(head, 24),
-        long_at(head, 32),
-        short_at(head, 62),
-    )
-}
-
-// What is lent is the start of each part, as long as the head says.
+// The macroblock, decoded. What is lent is the start of each part, as long as the head says.
 fn lend(
     y: &mut [u8],
     cb: &mut [u8],
@@ -85,6 +53,11 @@ fn lend(
 ) -> MbAnswer
     requires { ⌜ (1600 ≤ length (now y)) × (400 ≤ length (now cb)) × (400 ≤ length (now cr)) × (200 ≤ length (now mv)) × (100 ≤ length (now marks)) × (4200 ≤ length (now transcript)) × (2400 ≤ length (now reference)) ⌝ }
 {
+    let frame = frame_of(head);
+    let call = call_of(head);
+    let quantiser = number_at(head, 24);
+    let place = long_at(head, 32);
+    let fill = short_at(head, 62);
     let l = lent_of(head);
     let ny = l.y;
     let ncb = l.cb;
@@ -95,7 +68,7 @@ fn lend(
     let rcb = l.rcb;
     let rcr = l.rcr;
     let room = within(short_at(head, 60), 4200);
-    decode(
+    decode_inter_mb(
         &mut y[..ny],
         &mut cb[..ncb],
         &mut cr[..ncr],
@@ -106,7 +79,11 @@ fn lend(
         &reference[1600..rcb],
         &reference[2000..rcr],
         bits,
-        head,
+        frame,
+        call,
+        quantiser,
+        place,
+        fill,
     )
 }
 

@@ -23,10 +23,10 @@ use Rattle.questions.specs.Questions.{gridRight, planesRight, stateRight, refer
 use Rattle.calls.specs.Calls.{callIn}
 use Rattle.checking.specs.Records.{recordsIn, records}
 use Rattle.reading.specs.Read.{predictorAt, moved, readVectors, quantiserIn, readQuantiser, recordOf, atFirst, readResidual, readCoded, readMacroblock}
-use Rattle.macroblock.specs.Decode.{outcomeOf, decoded}
-use Rattle.run.specs.Run.{ended, withCall, ranFrom, ran, transcriptOf}
+use Rattle.outcome.specs.Decode.{outcomeOf, decoded}
+use Rattle.report.specs.Run.{ended, withCall, ranFrom, ran, transcriptOf}
 use Rattle.lines.specs.Text.{hexDigit, hexBytes, digits, decimal, line, hexLine, countLine, bitsLine, refusedLine}
-use Rattle.lines.specs.Header.{ranged, headerIn, callsFrom}
+use Rattle.header.specs.Header.{ranged, headerIn, callsFrom}
 use Rattle.printing.specs.Print.{start, room, recordLines, printedRun, printed}
 
 -- `bits 0`, `refused 5`, `refused 14`, `refused 15`

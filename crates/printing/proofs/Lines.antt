@@ -27,8 +27,8 @@ use Rattle.replay.specs.Recorded.{Recorded}
 use Rattle.lines.specs.Text.{hexBytes, hexLine, line, bitsLine}
 use Rattle.printing.specs.Print.{recordLines, linesOf, stopLines}
 use Rattle.lines.proofs.Texts.{line-length, bits-length, refused-length}
-use Rattle.run.specs.declared.Stop.{Stop}
-use Rattle.run.specs.declared.Stop.the-variants.{Done, By}
+use Rattle.report.specs.declared.Stop.{Stop}
+use Rattle.report.specs.declared.Stop.the-variants.{Done, By}
 
 -- ---- what is left: the transcript is read up to i, and the lines of what follows are still to be written at p
 pub record Going (cols rows : ℕ) (t : List ℕ) (out₀ : List ℕ) (at : ℕ) (out : List ℕ) (p i : ℕ) : Type 0 where

@@ -39,16 +39,16 @@ use Rattle.questions.specs.declared.Asked.{Asked}
 use Rattle.questions.specs.declared.Asked.the-variants.{Yes, No}
 use Rattle.calls.specs.Calls.{callIn}
 use Rattle.reading.specs.Read.{Context, Moving, moved, readVectors, quantiserIn, readQuantiser, recordOf, atFirst, readResidual, readCoded, readMacroblock}
-use Rattle.macroblock.specs.State.{State, contextOf, lengthsOf}
-use Rattle.macroblock.specs.Decode.{applied, Outcome, kept, outcomeOf, unlessRefused, decoded}
-use Rattle.macroblock.specs.declared.MbAnswer.{MbAnswer}
-use Rattle.macroblock.specs.declared.MbAnswer.the-variants.{Accepted, Refused}
-use Rattle.run.specs.Run.{Ran, ended, withCall, onward, ranFrom, ran, stopOf}
-use Rattle.run.specs.declared.Stop.the-variants.{Done, By}
+use Rattle.outcome.specs.State.{State, contextOf, lengthsOf}
+use Rattle.outcome.specs.Decode.{applied, Outcome, kept, outcomeOf, unlessRefused, decoded}
+use Rattle.outcome.specs.declared.MbAnswer.{MbAnswer}
+use Rattle.outcome.specs.declared.MbAnswer.the-variants.{Accepted, Refused}
+use Rattle.report.specs.Run.{Ran, ended, withCall, onward, ranFrom, ran, stopOf}
+use Rattle.report.specs.declared.Stop.the-variants.{Done, By}
 use Rattle.theorems.proofs.Traces.{Kind, no, yes, kind, path-range}
-use Rattle.lines.specs.Header.{HeaderRange, callsFrom}
+use Rattle.header.specs.Header.{HeaderRange, callsFrom}
 use Rattle.printing.specs.Print.{start, room}
-use Rattle.lines.specs.declared.header.Header.{Header}
+use Rattle.header.specs.declared.Header.{Header}
 
 -- ---- no reader refuses by 8
 abbrev Never : {E X : Type 0} → (List E → Got X) → Type 0

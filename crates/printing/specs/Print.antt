@@ -11,19 +11,15 @@ use Rattle.questions.specs.declared.Call.{Call}
 use Rattle.record.specs.Record.{Record}
 use Rattle.record.specs.Write.{recordBytes}
 use Rattle.checking.specs.Records.{records}
-use Rattle.macroblock.specs.State.{State}
-use Rattle.macroblock.specs.Entry.{stateOf}
-use Rattle.macroblock.specs.declared.svq3_frame.Frame.{Frame}
-use Rattle.run.specs.Run.{Ran, ran, transcriptOf}
-use Rattle.run.specs.declared.Stop.{Stop}
-use Rattle.run.specs.declared.Stop.the-variants.{Done, By}
+use Rattle.outcome.specs.State.{State}
+use Rattle.outcome.specs.Entry.{stateOf}
+use Rattle.outcome.specs.declared.Frame.{Frame}
+use Rattle.report.specs.Run.{Ran, ran, transcriptOf}
+use Rattle.report.specs.declared.Stop.{Stop}
+use Rattle.report.specs.declared.Stop.the-variants.{Done, By}
 use Rattle.lines.specs.Text.{hexLine, bitsLine, refusedLine}
-use Rattle.lines.specs.Header.{headerIn, callsFrom}
-use Rattle.lines.specs.declared.header.Header.{Header}
-
--- flags are 1 half + 2 third
-abbrev pub frameOf : Header → Frame
-frameOf h = record { cols = h .cols; rows = h .rows; flags = record { halfpel = eqb (h .flags % 2) 1; thirdpel = eqb (h .flags / 2) 1; delta = eqb (h .delta) 1 } }
+use Rattle.header.specs.Header.{headerIn, callsFrom, frameOf}
+use Rattle.header.specs.declared.Header.{Header}
 
 -- the reference is 128; the picture, the vectors and the marks are 0
 unfoldable pub start : Header → State

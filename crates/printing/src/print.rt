@@ -5,24 +5,23 @@ ghost use Prim.Native.Nat.{_+_, _*_, _≤_, _^_, _<_};
 ghost use lib.ListN.{length, take};
 ghost use Rattle.checking.specs.Records.{records};
 ghost use Rattle.transcript.specs.Answers.{Written};
-ghost use Rattle.run.specs.Run.{ranList};
-ghost use Rattle.run.specs.Left.{listLeft};
+ghost use Rattle.report.specs.Run.{ranList};
+ghost use Rattle.report.specs.Left.{listLeft};
 ghost use Rattle.replay.specs.Recorded.{Recorded};
-ghost use Rattle.lines.specs.Header.{HeaderRange};
+ghost use Rattle.header.specs.Header.{HeaderRange};
 ghost use Rattle.lines.specs.Text.{bitsLine};
-ghost use Rattle.printing.specs.Print.{frameOf, start, room, linesOf, stopLines, printedRun, printed};
-use lines::header::Header;
-use lines::header::HeaderAnswer;
-use lines::header::ListEnd;
-use lines::header::read_header;
-use lines::header::read_list;
+ghost use Rattle.printing.specs.Print.{start, room, linesOf, stopLines, printedRun, printed};
+use header::Header;
+use header::HeaderAnswer;
+use header::ListEnd;
+use header::frame_of;
+use header::read_header;
+use header::read_list;
 use lines::text::put_bits;
 use lines::text::put_hex_line;
 use lines::text::put_refused;
-use macroblock::svq3_frame::Frame;
-use reading::svq3_frame::Flags;
-use run::Report;
-use run::Stop;
+use report::Report;
+use report::Stop;
 use run::run::run;
 use transcript::parse::ParseAnswer;
 use transcript::parse::parse_record;
@@ -81,21 +80,6 @@ fn put_run(
     let p = put_records(out, transcript, 0, cols, rows);
     let p = put_bits(out, p, consumed);
     put_stop(out, p, stop)
-}
-
-// Flags are 1 half + 2 third.
-fn frame_of(h: Header) -> Frame
-    ensures { λ r. ⌜ r ≡ frameOf h ⌝ }
-{
-    Frame {
-        cols: h.cols,
-        rows: h.rows,
-        flags: Flags {
-            halfpel: h.flags % 2 == 1,
-            thirdpel: h.flags / 2 == 1,
-            delta: h.delta == 1,
-        },
-    }
 }
 
 // The run of a list from the printer's start.

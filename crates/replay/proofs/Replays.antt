@@ -18,7 +18,7 @@ use Rattle.record.specs.Record.{Record}
 use Rattle.checking.specs.Records.{records}
 use Rattle.checking.specs.Check.{checkAnswer}
 use Rattle.checking.specs.declared.CheckAnswer.the-variants as check
-use Rattle.macroblock.specs.State.{State, lengthsOf}
+use Rattle.outcome.specs.State.{State, lengthsOf}
 use Rattle.replay.specs.Replay.{appliedAll, Replay, replayOf, unlessAsked, replayed}
 use Rattle.replay.specs.Recorded.{Recorded, appliedOf, allLeft}
 use Rattle.replay.specs.declared.ReplayAnswer.the-variants.{Replayed, Refused}

@@ -10,10 +10,10 @@ use Rattle.questions.specs.declared.Asked.{Asked}
 use Rattle.questions.specs.declared.Asked.the-variants.{Yes, No}
 use Rattle.record.specs.Record.{Record}
 use Rattle.checking.specs.Records.{records}
-use Rattle.macroblock.specs.State.{State, lengthsOf}
-use Rattle.macroblock.specs.Entry.{stateOf}
-use Rattle.macroblock.specs.declared.svq3_frame.Frame.{Frame}
-use Rattle.macroblock.specs.Decode.{applied}
+use Rattle.outcome.specs.State.{State, lengthsOf}
+use Rattle.outcome.specs.Entry.{stateOf}
+use Rattle.outcome.specs.declared.Frame.{Frame}
+use Rattle.outcome.specs.Decode.{applied}
 use Rattle.replay.specs.declared.ReplayAnswer.{ReplayAnswer}
 use Rattle.replay.specs.declared.ReplayAnswer.the-variants.{Replayed, Refused}
 

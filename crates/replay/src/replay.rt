@@ -1,142 +1,19 @@
 // The replay of a transcript.
 ghost use mathlib.Core.Path.{_≡_};
 ghost use Prim.Native.Nat.{_*_, _≤_};
-ghost use lib.ListN.{length, drop};
+ghost use lib.ListN.{length};
 ghost use Rattle.picture.specs.Picture.{Sized, cellCount};
-ghost use Rattle.record.specs.Parse.{parseRecord};
-ghost use Rattle.transcript.specs.Answers.{placeAnswer};
-ghost use Rattle.transcript.specs.Place.{parsePlace};
-ghost use Rattle.macroblock.specs.Entry.{stateOf};
+ghost use Rattle.outcome.specs.Entry.{stateOf};
 ghost use Rattle.replay.specs.Replay.{replayed, replayLeft};
-ghost use Rattle.replay.specs.Recorded.{Recorded, Stepped, allLeft};
+ghost use Rattle.replay.specs.Recorded.{Recorded, allLeft};
 use crate::ReplayAnswer;
-use apply::applied::apply_record;
-use apply::applied::apply_skip;
 use checking::CheckAnswer;
 use checking::check_records;
-use macroblock::svq3_frame::Frame;
-use macroblock::svq3_frame::quantiser_after;
+use outcome::Frame;
 use questions::Asked;
 use questions::Lengths;
 use questions::ask_replay;
-use record::Head;
-use transcript::parse::ParseAnswer;
-use transcript::parse::parse_motion;
-use transcript::parse::parse_place;
-
-// The quantiser after a record, and the place behind it.
-struct Step {
-    quantiser: u32,
-    next: usize,
-}
-
-// The work of the record at `at`, which is no skip and whose place and mode end at `next`.
-fn replay_coded(
-    y: &mut [u8],
-    cb: &mut [u8],
-    cr: &mut [u8],
-    mv: &mut [i32],
-    marks: &mut [u8],
-    ry: &[u8],
-    rcb: &[u8],
-    rcr: &[u8],
-    bytes: &[u8],
-    frame: Frame,
-    quantiser: u32,
-    at: usize,
-    head: Head,
-    next: usize,
-) -> Step
-    requires { ⌜ (frame .cols ≤ 4096) × (frame .rows ≤ 4096) × (ParseAnswer.Parsed head next ≡ placeAnswer at (parsePlace (frame .cols) (frame .rows) (drop at (now bytes)))) × (head .mode ≡ 0 → ⊥) ⌝ }
-    requires { ⌜ Sized (frame .cols) (frame .rows) (length (now y)) (length (now cb)) (length (now cr)) × Sized (frame .cols) (frame .rows) (length (now ry)) (length (now rcb)) (length (now rcr)) × (length (now mv) ≡ 2 * cellCount (frame .cols) (frame .rows)) × (length (now marks) ≡ cellCount (frame .cols) (frame .rows)) ⌝ }
-    ensures { λ r. ⌜ Stepped (parseRecord (frame .cols) (frame .rows) (drop at (now (bytes .entry)))) at (r .next) (stateOf frame quantiser (now (ry .entry)) (now (rcb .entry)) (now (rcr .entry)) (now (y .entry)) (now (cb .entry)) (now (cr .entry)) (now (mv .entry)) (now (marks .entry))) (stateOf frame (r .quantiser) (now (ry .entry)) (now (rcb .entry)) (now (rcr .entry)) (now (y .exit)) (now (cb .exit)) (now (cr .exit)) (now (mv .exit)) (now (marks .exit))) ⌝ }
-{
-    let mut vectors = [0i32; 32];
-    let mut levels = [0i32; 392];
-    let ParseAnswer::Parsed(coded, end) = parse_motion(&mut vectors, &mut levels, bytes, next, head)
-    else {
-        return Step { quantiser, next };
-    };
-    apply_record(
-        y,
-        cb,
-        cr,
-        mv,
-        marks,
-        ry,
-        rcb,
-        rcr,
-        &vectors,
-        &levels,
-        frame.cols as usize,
-        frame.rows as usize,
-        coded,
-    );
-    Step {
-        quantiser: quantiser_after(quantiser, coded),
-        next: end,
-    }
-}
-
-// The work of the record at `at`. A skip needs no vectors and no levels.
-fn replay_record(
-    y: &mut [u8],
-    cb: &mut [u8],
-    cr: &mut [u8],
-    mv: &mut [i32],
-    marks: &mut [u8],
-    ry: &[u8],
-    rcb: &[u8],
-    rcr: &[u8],
-    bytes: &[u8],
-    frame: Frame,
-    quantiser: u32,
-    at: usize,
-) -> Step
-    requires { ⌜ (frame .cols ≤ 4096) × (frame .rows ≤ 4096) ⌝ }
-    requires { ⌜ Sized (frame .cols) (frame .rows) (length (now y)) (length (now cb)) (length (now cr)) × Sized (frame .cols) (frame .rows) (length (now ry)) (length (now rcb)) (length (now rcr)) × (length (now mv) ≡ 2 * cellCount (frame .cols) (frame .rows)) × (length (now marks) ≡ cellCount (frame .cols) (frame .rows)) ⌝ }
-    ensures { λ r. ⌜ Stepped (parseRecord (frame .cols) (frame .rows) (drop at (now (bytes .entry)))) at (r .next) (stateOf frame quantiser (now (ry .entry)) (now (rcb .entry)) (now (rcr .entry)) (now (y .entry)) (now (cb .entry)) (now (cr .entry)) (now (mv .entry)) (now (marks .entry))) (stateOf frame (r .quantiser) (now (ry .entry)) (now (rcb .entry)) (now (rcr .entry)) (now (y .exit)) (now (cb .exit)) (now (cr .exit)) (now (mv .exit)) (now (marks .exit))) ⌝ }
-{
-    let ParseAnswer::Parsed(head, next) = parse_place(bytes, at, frame.cols, frame.rows) else {
-        return Step {
-            quantiser,
-            next: at,
-        };
-    };
-    if head.mode == 0 {
-        apply_skip(
-            y,
-            cb,
-            cr,
-            mv,
-            marks,
-            ry,
-            rcb,
-            rcr,
-            frame.cols as usize,
-            frame.rows as usize,
-            head.column as usize,
-            head.row as usize,
-        );
-        return Step { quantiser, next };
-    }
-    replay_coded(
-        y,
-        cb,
-        cr,
-        mv,
-        marks,
-        ry,
-        rcb,
-        rcr,
-        bytes,
-        frame,
-        quantiser,
-        at,
-        head,
-        next,
-    )
-}
+use redo::replay_record;
 
 // The work of all records of a transcript that passed the check; answers the quantiser afterwards.
 fn replay_records(

@@ -16,8 +16,8 @@ use cases::slices::within;
 use cases::state::lent_of;
 use cases::state::same_state;
 use cases::state::unpack;
-use run::Report;
-use run::Stop;
+use report::Report;
+use report::Stop;
 use run::run::run;
 
 fn stopped(stop: Stop, head: &[u8; 80]) -> bool {
@@ -41,39 +41,7 @@ fn reported(report: Report, head: &[u8; 80]) -> bool {
         & stopped(stop, head)
 }
 
-fn run_list(
-    y: &mut [u8],
-    cb: &mut [u8],
-    cr: &mut [u8],
-    mv: &mut [i32],
-    marks: &mut [u8],
-    transcript: &mut [u8],
-    ry: &[u8],
-    rcb: &[u8],
-    rcr: &[u8],
-    bits: &[u8],
-    list: &[u8],
-    head: &[u8; 80],
-) -> Report {
-    run(
-        y,
-        cb,
-        cr,
-        mv,
-        marks,
-        transcript,
-        ry,
-        rcb,
-        rcr,
-        bits,
-        list,
-        frame_of(head),
-        number_at(head, 24),
-        long_at(head, 32),
-    )
-}
-
-// What is lent is the start of each part, as long as the head says.
+// The run. What is lent is the start of each part, as long as the head says.
 fn lend(
     y: &mut [u8],
     cb: &mut [u8],
@@ -88,6 +56,9 @@ fn lend(
 ) -> Report
     requires { ⌜ (1600 ≤ length (now y)) × (400 ≤ length (now cb)) × (400 ≤ length (now cr)) × (200 ≤ length (now mv)) × (100 ≤ length (now marks)) × (8192 ≤ length (now transcript)) × (2400 ≤ length (now reference)) ⌝ }
 {
+    let frame = frame_of(head);
+    let quantiser = number_at(head, 24);
+    let place = long_at(head, 32);
     let l = lent_of(head);
     let ny = l.y;
     let ncb = l.cb;
@@ -98,7 +69,7 @@ fn lend(
     let rcb = l.rcb;
     let rcr = l.rcr;
     let room = within(short_at(head, 60), 8192);
-    run_list(
+    run(
         &mut y[..ny],
         &mut cb[..ncb],
         &mut cr[..ncr],
@@ -110,7 +81,9 @@ fn lend(
         &reference[2000..rcr],
         bits,
         list,
-        head,
+        frame,
+        quantiser,
+        place,
     )
 }
 

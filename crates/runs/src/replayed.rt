@@ -11,7 +11,7 @@ use cases::state::same_state;
 use cases::state::unpack;
 use checking::CheckAnswer;
 use checking::check_transcript;
-use macroblock::svq3_frame::Frame;
+use outcome::Frame;
 use reading::svq3_frame::Flags;
 use replay::ReplayAnswer;
 use replay::replay::replay;
@@ -43,34 +43,7 @@ fn answered(got: ReplayAnswer, head: &[u8; 80], number: u32) -> bool {
     }
 }
 
-fn replay_bytes(
-    y: &mut [u8],
-    cb: &mut [u8],
-    cr: &mut [u8],
-    mv: &mut [i32],
-    marks: &mut [u8],
-    ry: &[u8],
-    rcb: &[u8],
-    rcr: &[u8],
-    bytes: &[u8],
-    head: &[u8; 80],
-) -> ReplayAnswer {
-    replay(
-        y,
-        cb,
-        cr,
-        mv,
-        marks,
-        ry,
-        rcb,
-        rcr,
-        bytes,
-        frame_of(head),
-        number_at(head, 24),
-    )
-}
-
-// What is lent is the start of each part, as long as the head says.
+// The replay. What is lent is the start of each part, as long as the head says.
 fn lend(
     y: &mut [u8],
     cb: &mut [u8],
@@ -83,6 +56,8 @@ fn lend(
 ) -> ReplayAnswer
     requires { ⌜ (1600 ≤ length (now y)) × (400 ≤ length (now cb)) × (400 ≤ length (now cr)) × (200 ≤ length (now mv)) × (100 ≤ length (now marks)) × (2400 ≤ length (now reference)) ⌝ }
 {
+    let frame = frame_of(head);
+    let quantiser = number_at(head, 24);
     let l = lent_of(head);
     let ny = l.y;
     let ncb = l.cb;
@@ -92,7 +67,7 @@ fn lend(
     let nry = l.ry;
     let rcb = l.rcb;
     let rcr = l.rcr;
-    replay_bytes(
+    replay(
         &mut y[..ny],
         &mut cb[..ncb],
         &mut cr[..ncr],
@@ -102,7 +77,8 @@ fn lend(
         &reference[1600..rcb],
         &reference[2000..rcr],
         bytes,
-        head,
+        frame,
+        quantiser,
     )
 }
 

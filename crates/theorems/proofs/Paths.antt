@@ -20,8 +20,8 @@ use Rattle.reading.specs.Read.{readMacroblock}
 use Rattle.reading.specs.Bits.{callOf, bitsOf}
 use Rattle.reading.proofs.Alone.{read-local}
 use Rattle.reading.proofs.Took.{read-took, read-call}
-use Rattle.macroblock.specs.State.{State, contextOf}
-use Rattle.macroblock.specs.Decode.{applied}
+use Rattle.outcome.specs.State.{State, contextOf}
+use Rattle.outcome.specs.Decode.{applied}
 use Rattle.theorems.specs.Trace.{Ready, Path, done, step, callsOf, bytesOf, clipsOf}
 use Rattle.theorems.proofs.Traces.{path-range}
 

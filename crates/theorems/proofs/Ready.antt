@@ -8,7 +8,7 @@ use Rattle.questions.proofs.Laws.{grid}
 use Rattle.questions.proofs.Yes.{started, rest-yes}
 use Rattle.questions.specs.declared.Call.{Call}
 use Rattle.questions.specs.declared.Asked.the-variants.{Yes}
-use Rattle.macroblock.specs.State.{State, lengthsOf}
+use Rattle.outcome.specs.State.{State, lengthsOf}
 use Rattle.theorems.specs.Trace.{Ready}
 
 -- where 1 to 8 of a call pass, so do 1 to 4 and 6; the call is ready, and 2,089 bytes are free

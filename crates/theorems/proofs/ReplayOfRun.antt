@@ -19,10 +19,10 @@ use Rattle.record.specs.Write.{recordBytes}
 use Rattle.record.specs.Parse.{parseRecord}
 use Rattle.record.proofs.Records.{record-format}
 use Rattle.record.proofs.Lengths.{record-some}
-use Rattle.macroblock.specs.State.{State, lengthsOf}
-use Rattle.macroblock.specs.Decode.{applied, Outcome, kept, outcomeOf, decoded}
+use Rattle.outcome.specs.State.{State, lengthsOf}
+use Rattle.outcome.specs.Decode.{applied, Outcome, kept, outcomeOf, decoded}
 use Rattle.calls.specs.Calls.{calls}
-use Rattle.run.specs.Run.{Ran, ended, onward, ranFrom, ran, ranOf, ranList, transcriptOf}
+use Rattle.report.specs.Run.{Ran, ended, onward, ranFrom, ran, ranOf, ranList, transcriptOf}
 use Rattle.lists.proofs.Laws.{until-end, until-turn}
 use Rattle.checking.specs.Records.{recordsIn, records}
 use Rattle.replay.specs.Replay.{appliedAll, Replay, replayOf, unlessAsked, replayed}

@@ -22,12 +22,12 @@ use Rattle.record.proofs.Lengths.{record-length, head-range}
 use Rattle.reading.specs.Read.{readMacroblock}
 use Rattle.reading.specs.Bits.{callOf}
 use Rattle.reading.proofs.Took.{read-range, read-call}
-use Rattle.macroblock.specs.State.{State, contextOf, lengthsOf}
-use Rattle.macroblock.specs.Decode.{applied, quantiserAfter, Outcome, kept, outcomeOf, unlessRefused, decoded}
-use Rattle.macroblock.specs.declared.MbAnswer.the-variants.{Accepted, Refused}
-use Rattle.run.specs.Run.{Ran, ended, withCall, onward, ranFrom}
-use Rattle.run.specs.declared.Stop.{Stop}
-use Rattle.run.specs.declared.Stop.the-variants.{Done, By}
+use Rattle.outcome.specs.State.{State, contextOf, lengthsOf}
+use Rattle.outcome.specs.Decode.{applied, quantiserAfter, Outcome, kept, outcomeOf, unlessRefused, decoded}
+use Rattle.outcome.specs.declared.MbAnswer.the-variants.{Accepted, Refused}
+use Rattle.report.specs.Run.{Ran, ended, withCall, onward, ranFrom}
+use Rattle.report.specs.declared.Stop.{Stop}
+use Rattle.report.specs.declared.Stop.the-variants.{Done, By}
 use Rattle.theorems.specs.Trace.{Ready, Path, done, step, callsOf, bytesOf, clipsOf}
 use Rattle.theorems.proofs.Ready.{Asks, asks}
 

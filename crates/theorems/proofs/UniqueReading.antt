@@ -9,10 +9,10 @@ use native.Mathlib.Omega.{arith}
 use lib.ListN.{take, drop}
 use Rattle.bits.specs.Bits.{bitList}
 use Rattle.questions.specs.declared.Call.{Call}
-use Rattle.macroblock.specs.State.{State}
+use Rattle.outcome.specs.State.{State}
 use Rattle.refusal.specs.Got.{Got, got, refused}
 use Rattle.calls.specs.Calls.{calls}
-use Rattle.run.specs.Run.{Ran, ended, ran, ranOf, ranList, transcriptOf, consumed}
+use Rattle.report.specs.Run.{Ran, ended, ran, ranOf, ranList, transcriptOf, consumed}
 use Rattle.record.specs.Record.{Record}
 use Rattle.theorems.specs.Trace.{Path, callsOf, bytesOf, clipsOf}
 use Rattle.theorems.proofs.Traces.{Trace, trace, no-call}

@@ -11,8 +11,8 @@ use Rattle.record.specs.Record.{Record}
 use Rattle.record.specs.Write.{recordBytes}
 use Rattle.reading.specs.Read.{readMacroblock}
 use Rattle.reading.specs.Bits.{callOf}
-use Rattle.macroblock.specs.State.{State, contextOf}
-use Rattle.macroblock.specs.Decode.{applied}
+use Rattle.outcome.specs.State.{State, contextOf}
+use Rattle.outcome.specs.Decode.{applied}
 
 -- what the questions said of an accepted call
 pub record Ready (s : State) (call : Call) : Type 0 where

@@ -1,12 +1,10 @@
 -- `svq3_replay`: the counts are asked for, then the transcript is replayed.
 use mir.Syntax.{w64}
-use mir.Facts.{toZ-pos}
-use native.Mathlib.Omega.{arith}
+use Rattle.ints.proofs.Fits.{back}
 use denote.Ref.{now}
-use Rattle.acceptance.specs.Told.{frameOf}
+use Rattle.told.specs.Told.{frameOf}
 use Rattle.acceptance.specs.Entries.{Slices, slicesOf}
 use Rattle.acceptance.proofs.Entries.{replay-short, replay-done}
-use borrow.Author.Needs.{needs}
 use Rattle.acceptance.proofs.svq3_replay.Statement.{statement}
 use Rattle.acceptance.proofs.svq3_replay.Tie as tie
 
@@ -20,27 +18,26 @@ returns c =
 
 returns-2 : tie.Need-returns-2
 returns-2 c =
-    let s = c .before .before .before .before .before .before .before .before .before .before .before .before .before .before .before .before .before .before .before .before .before .before .before .before .before .before .before .before .before .before .before .before in
-    let f = c .before .before .before .before .before .before .before .before .before .before .before .before .before .before .before .before .before .before .before .before .before .frame-of in
-    let k = c .before .before .before .before .before .before .before .before .before .before .before .before .before .before .before .replay in
-    let t = c .before .before .before .before .before .told-by-replay in
-    let p = c .before .before .before .put-two in
-    replay-done (frameOf (s .args .cols) (s .args .rows) 0 0) (s .args .quantiser) (now (s .args .ry)) (now (s .args .rcb)) (now (s .args .rcr)) (S s) (f .result) (f .ensures) (k .last .0) (k .last .1 .0) (k .last .1 .1 .0) (k .last .1 .1 .1 .0) (k .last .1 .1 .1 .1 .0) (now (s .args .transcript)) (p .last .0) _ (t .result) (toZ-pos w64 (omega (arith, c .struct-known .given))) (p .ensures) (c .before .before .before .before .before .before .before .before .before .before .before .before .before .before .before .before .before .before .before .before .before .before .if1 .left) (k .result) (k .ensures) (t .ensures)
+    let s = c .before .before .before .before .before .before .before .before .before .before .before .before .before .before .before .before .before .before .before .before .before .before .before .before .before .before .before .before .before .before .before in
+    let f = c .before .before .before .before .before .before .before .before .before .before .before .before .before .before .before .before .before .before .before .before .frame-of in
+    let k = c .before .before .before .before .before .before .before .before .before .before .before .before .before .before .replay in
+    let t = c .before .before .before .before .told-by-replay in
+    let p = c .before .before .tell-two in
+    replay-done (frameOf (s .args .cols) (s .args .rows) 0 0) (s .args .quantiser) (now (s .args .ry)) (now (s .args .rcb)) (now (s .args .rcr)) (S s) (f .result) (f .ensures) (k .last .0) (k .last .1 .0) (k .last .1 .1 .0) (k .last .1 .1 .1 .0) (k .last .1 .1 .1 .1 .0) (now (s .args .transcript)) (p .last .0) _ (t .result) (back w64 (p .ok) (p .ensures .0)) (p .ensures .1) (c .before .before .before .before .before .before .before .before .before .before .before .before .before .before .before .before .before .before .before .before .before .if1 .left) (k .result) (k .ensures) (t .ensures)
 
 pub svq3-replay-spec : {M : Type 1} → statement M
 svq3-replay-spec =
     tie.close
     (tie.spec
     returns
-    (λ c κs. search needs)
-    (λ c κs. search needs)
-    (λ c κs. search needs)
-    (λ c κs. search needs)
-    (λ c. search needs)
-    (λ c. search needs)
-    (λ c. search needs)
-    (λ c. search needs)
-    (λ c. search needs)
-    (λ c. search needs)
-    (λ c. search needs)
+    (λ c κs. tt)
+    (λ c κs. tt)
+    (λ c κs. tt)
+    (λ c κs. c .before .before .before .before .before .before .before .before .before .before .before .before .before .before .before .before .before .before .if1 .left)
+    (λ c. c .before .before .before .before .before .before .before .before .before .before .before .before .before .before .replay .kept .0)
+    (λ c. c .before .before .before .before .before .before .before .before .before .before .before .before .before .before .replay .kept .1 .0)
+    (λ c. c .before .before .before .before .before .before .before .before .before .before .before .before .before .before .replay .kept .1 .1 .0)
+    (λ c. c .before .before .before .before .before .before .before .before .before .before .before .before .before .before .replay .kept .1 .1 .1 .0)
+    (λ c. c .before .before .before .before .before .before .before .before .before .before .before .before .before .before .replay .kept .1 .1 .1 .1 .0)
+    (λ c. c .before .before .tell-two .kept .0)
     returns-2)

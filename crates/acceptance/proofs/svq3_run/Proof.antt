@@ -1,12 +1,10 @@
 -- `svq3_run`: the counts are asked for, then the run is made.
 use mir.Syntax.{w64}
-use mir.Facts.{toZ-pos}
-use native.Mathlib.Omega.{arith}
+use Rattle.ints.proofs.Fits.{back}
 use denote.Ref.{now}
-use Rattle.acceptance.specs.Told.{frameOf}
+use Rattle.told.specs.Told.{frameOf}
 use Rattle.acceptance.specs.Entries.{Slices, slicesOf}
 use Rattle.acceptance.proofs.Entries.{run-short, run-done}
-use borrow.Author.Needs.{needs}
 use Rattle.acceptance.proofs.svq3_run.Statement.{statement}
 use Rattle.acceptance.proofs.svq3_run.Tie as tie
 
@@ -20,28 +18,27 @@ returns c =
 
 returns-2 : tie.Need-returns-2
 returns-2 c =
-    let s = c .before .before .before .before .before .before .before .before .before .before .before .before .before .before .before .before .before .before .before .before .before .before .before .before .before .before .before .before .before .before .before .before .before .before .before .before .before in
-    let f = c .before .before .before .before .before .before .before .before .before .before .before .before .before .before .before .before .before .before .before .before .before .before .before .before .frame-of in
-    let k = c .before .before .before .before .before .before .before .before .before .before .before .before .before .before .before .before .before .run in
-    let t = c .before .before .before .before .before .told-by-run in
-    let p = c .before .before .before .put-five in
-    run-done (frameOf (s .args .cols) (s .args .rows) (s .args .flags) (s .args .delta)) (s .args .quantiser) (now (s .args .ry)) (now (s .args .rcb)) (now (s .args .rcr)) (S s) (f .result) (f .ensures) (k .last .0) (k .last .1 .0) (k .last .1 .1 .0) (k .last .1 .1 .1 .0) (k .last .1 .1 .1 .1 .0) (k .last .1 .1 .1 .1 .1 .0) (p .last .0) _ (t .result) (toZ-pos w64 (omega (arith, c .struct-known .given))) (p .ensures) (c .before .before .before .before .before .before .before .before .before .before .before .before .before .before .before .before .before .before .before .before .before .before .before .before .before .if1 .left) (now (s .args .calls)) (now (s .args .bits)) (s .args .place) (k .result) (k .ensures) (t .ensures)
+    let s = c .before .before .before .before .before .before .before .before .before .before .before .before .before .before .before .before .before .before .before .before .before .before .before .before .before .before .before .before .before .before .before .before .before .before .before .before in
+    let f = c .before .before .before .before .before .before .before .before .before .before .before .before .before .before .before .before .before .before .before .before .before .before .before .frame-of in
+    let k = c .before .before .before .before .before .before .before .before .before .before .before .before .before .before .before .before .run in
+    let t = c .before .before .before .before .told-by-run in
+    let p = c .before .before .tell-five in
+    run-done (frameOf (s .args .cols) (s .args .rows) (s .args .flags) (s .args .delta)) (s .args .quantiser) (now (s .args .ry)) (now (s .args .rcb)) (now (s .args .rcr)) (S s) (f .result) (f .ensures) (k .last .0) (k .last .1 .0) (k .last .1 .1 .0) (k .last .1 .1 .1 .0) (k .last .1 .1 .1 .1 .0) (k .last .1 .1 .1 .1 .1 .0) (p .last .0) _ (t .result) (back w64 (p .ok) (p .ensures .0)) (p .ensures .1) (c .before .before .before .before .before .before .before .before .before .before .before .before .before .before .before .before .before .before .before .before .before .before .before .before .if1 .left) (now (s .args .calls)) (now (s .args .bits)) (s .args .place) (k .result) (k .ensures) (t .ensures)
 
 pub svq3-run-spec : {M : Type 1} → statement M
 svq3-run-spec =
     tie.close
     (tie.spec
     returns
-    (λ c κs. search needs)
-    (λ c κs. search needs)
-    (λ c κs. search needs)
-    (λ c κs. search needs)
-    (λ c. search needs)
-    (λ c. search needs)
-    (λ c. search needs)
-    (λ c. search needs)
-    (λ c. search needs)
-    (λ c. search needs)
-    (λ c. search needs)
-    (λ c. search needs)
+    (λ c κs. tt)
+    (λ c κs. tt)
+    (λ c κs. tt)
+    (λ c κs. c .before .before .before .before .before .before .before .before .before .before .before .before .before .before .before .before .before .before .before .before .before .if1 .left)
+    (λ c. c .before .before .before .before .before .before .before .before .before .before .before .before .before .before .before .before .run .kept .0)
+    (λ c. c .before .before .before .before .before .before .before .before .before .before .before .before .before .before .before .before .run .kept .1 .0)
+    (λ c. c .before .before .before .before .before .before .before .before .before .before .before .before .before .before .before .before .run .kept .1 .1 .0)
+    (λ c. c .before .before .before .before .before .before .before .before .before .before .before .before .before .before .before .before .run .kept .1 .1 .1 .0)
+    (λ c. c .before .before .before .before .before .before .before .before .before .before .before .before .before .before .before .before .run .kept .1 .1 .1 .1 .0)
+    (λ c. c .before .before .before .before .before .before .before .before .before .before .before .before .before .before .before .before .run .kept .1 .1 .1 .1 .1 .0)
+    (λ c. c .before .before .tell-five .kept .0)
     returns-2)

@@ -1,9 +1,9 @@
 -- `decode_inter_mb`: a call that is refused by a question changes nothing; the others are decoded.
 use mathlib.Core.Path.{sym, _∙_}
 use denote.Ref.{now}
-use Rattle.macroblock.specs.State.{State}
-use Rattle.macroblock.specs.Entry.{stateOf}
-use Rattle.macroblock.proofs.Laws as laws
+use Rattle.outcome.specs.State.{State}
+use Rattle.outcome.specs.Entry.{stateOf}
+use Rattle.outcome.proofs.Laws as laws
 use borrow.Author.Needs.{needs}
 use Rattle.macroblock.proofs.svq3_frame.decode_inter_mb.Statement.{statement}
 use Rattle.macroblock.proofs.svq3_frame.decode_inter_mb.Tie as tie
@@ -28,16 +28,16 @@ pub decode-inter-mb-spec : {M : Type 1} → statement M
 decode-inter-mb-spec =
     tie.close
     (tie.spec
-    (λ c κs. search needs)
-    (λ c κs. search needs)
+    (λ c κs. tt)
+    (λ c κs. tt)
     (λ c. search needs)
     decode-asked-requires
     (λ c. search needs)
-    (λ c. search needs)
-    (λ c. search needs)
-    (λ c. search needs)
-    (λ c. search needs)
-    (λ c. search needs)
-    (λ c. search needs)
+    (λ c. c .before .before .before .before .before .before .before .before .before .before .before .decode-asked .kept .0)
+    (λ c. c .before .before .before .before .before .before .before .before .before .before .before .decode-asked .kept .1 .0)
+    (λ c. c .before .before .before .before .before .before .before .before .before .before .before .decode-asked .kept .1 .1 .0)
+    (λ c. c .before .before .before .before .before .before .before .before .before .before .before .decode-asked .kept .1 .1 .1 .0)
+    (λ c. c .before .before .before .before .before .before .before .before .before .before .before .decode-asked .kept .1 .1 .1 .1 .0)
+    (λ c. c .before .before .before .before .before .before .before .before .before .before .before .decode-asked .kept .1 .1 .1 .1 .1 .0)
     returns
     returns-2)

@@ -4,16 +4,12 @@ use Prim.Native.Nat.{ℕ}
 use native.Mathlib.Omega.{arith}
 use denote.Ref.{now}
 use Rattle.picture.specs.Picture.{Within}
-use Rattle.macroblock.specs.State.{State}
-use Rattle.macroblock.specs.Entry.{stateOf}
-use Rattle.macroblock.proofs.Laws as laws
+use Rattle.outcome.specs.State.{State}
+use Rattle.outcome.specs.Entry.{stateOf}
+use Rattle.outcome.proofs.Laws as laws
 use borrow.Author.Needs.{needs}
 use Rattle.macroblock.proofs.svq3_frame.decode_skip.Statement.{statement}
 use Rattle.macroblock.proofs.svq3_frame.decode_skip.Tie as tie
-use Rattle.macroblock.proofs.svq3_frame.decode_skip.Reads as reads
-use Rattle.macroblock.proofs.svq3_frame.decode_skip.Lts as lts
-use Rattle.apply.proofs.applied.apply_skip.Reads as apply-skip-reads
-use Rattle.transcript.proofs.write.put_skip.Reads as put-skip-reads
 
 abbrev S : tie.Start → State
 S c = stateOf (c .args .frame) (c .args .quantiser) (now (c .args .ry)) (now (c .args .rcb)) (now (c .args .rcr)) (now (c .args .y)) (now (c .args .cb)) (now (c .args .cr)) (now (c .args .mv)) (now (c .args .marks))
@@ -24,55 +20,12 @@ facts-at s = laws.facts (S s) (s .args .call) (now (s .args .bits)) (s .args .pl
 within-at : (s : tie.Start) → Within (S s .cols) (S s .rows) (s .args .call .column) (s .args .call .row)
 within-at s = laws.within (S s) (s .args .call) (now (s .args .bits)) (s .args .place) (now (s .args .transcript)) (s .args .fill) (s .pre .0)
 
--- src/svq3_frame.rt:140:9
 put-skip-requires : tie.Need-put-skip-requires
 put-skip-requires c κs = let s = c .before .before .before .before .before .before .before .before .before .before in let g = within-at s in (omega (arith, g .across, g .wide), omega (arith, g .down, g .high), omega (arith, laws.room (S s) (s .args .call) (now (s .args .bits)) (s .args .place) (now (s .args .transcript)) (s .args .fill) (s .pre .0)))
 
--- src/svq3_frame.rt:150:9
-cast-apply-skip : tie.Need-cast-apply-skip
-cast-apply-skip c = search needs
-
--- src/svq3_frame.rt:151:9
-cast-apply-skip-2 : tie.Need-cast-apply-skip-2
-cast-apply-skip-2 c = search needs
-
--- src/svq3_frame.rt:152:9
-cast-apply-skip-3 : tie.Need-cast-apply-skip-3
-cast-apply-skip-3 c = search needs
-
--- src/svq3_frame.rt:153:9
-cast-apply-skip-4 : tie.Need-cast-apply-skip-4
-cast-apply-skip-4 c = search needs
-
--- src/svq3_frame.rt:141:5
 apply-skip-requires : tie.Need-apply-skip-requires
 apply-skip-requires c κs = let s = c .before .before .before .before .before .before .before .before .before .before .before .before .before .before .before .before .before .before .before .before .before .before in let f = facts-at s in (within-at s, (f .sized .picture, f .reference, f .sized .mv, f .sized .marks))
 
--- src/svq3_frame.rt:119:1
-same-length : tie.Need-same-length
-same-length c = search needs
-
--- src/svq3_frame.rt:119:1
-same-length-2 : tie.Need-same-length-2
-same-length-2 c = search needs
-
--- src/svq3_frame.rt:119:1
-same-length-3 : tie.Need-same-length-3
-same-length-3 c = search needs
-
--- src/svq3_frame.rt:119:1
-same-length-4 : tie.Need-same-length-4
-same-length-4 c = search needs
-
--- src/svq3_frame.rt:119:1
-same-length-5 : tie.Need-same-length-5
-same-length-5 c = search needs
-
--- src/svq3_frame.rt:119:1
-same-length-6 : tie.Need-same-length-6
-same-length-6 c = search needs
-
--- src/svq3_frame.rt:119:1
 returns : tie.Need-returns
 returns c = let s = c .before .before .before .before .before .before .before .before .before .before .before .before .before .before .before .before .before .before .before .before .before .before .before .before .before .before .before .before .before .before .before .before in let a = c .before .before .before .before .before .before .before .before .before .apply-skip in let w = c .before .before .before .before .before .before .before .before .before .before .before .before .before .before .before .before .before .before .before .before .before .put-skip in laws.skipped (S s) (s .args .call) (now (s .args .bits)) (s .args .place) (now (s .args .transcript)) (s .args .fill) (s .pre .0) (s .pre .1) (w .result) (a .last .0) (a .last .1 .0) (a .last .1 .1 .0) (a .last .1 .1 .1 .0) (a .last .1 .1 .1 .1 .0) (w .last .0) (w .ensures) (a .ensures .0) (a .ensures .1 .0) (a .ensures .1 .1 .0) (a .ensures .1 .1 .1 .0) (a .ensures .1 .1 .1 .1)
 
@@ -81,15 +34,15 @@ decode-skip-spec =
     tie.close
     (tie.spec
     put-skip-requires
-    cast-apply-skip
-    cast-apply-skip-2
-    cast-apply-skip-3
-    cast-apply-skip-4
+    (λ c. search needs)
+    (λ c. search needs)
+    (λ c. search needs)
+    (λ c. search needs)
     apply-skip-requires
-    same-length
-    same-length-2
-    same-length-3
-    same-length-4
-    same-length-5
-    same-length-6
+    (λ c. c .before .before .before .before .before .before .before .before .before .apply-skip .kept .0)
+    (λ c. c .before .before .before .before .before .before .before .before .before .apply-skip .kept .1 .0)
+    (λ c. c .before .before .before .before .before .before .before .before .before .apply-skip .kept .1 .1 .0)
+    (λ c. c .before .before .before .before .before .before .before .before .before .apply-skip .kept .1 .1 .1 .0)
+    (λ c. c .before .before .before .before .before .before .before .before .before .apply-skip .kept .1 .1 .1 .1 .0)
+    (λ c. c .before .before .before .before .before .before .before .before .before .before .before .before .before .before .before .before .before .before .before .before .before .put-skip .kept .0)
     returns)

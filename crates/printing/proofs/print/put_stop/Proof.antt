@@ -3,7 +3,7 @@ use mathlib.Core.Path.{_≡_, refl, sym, ap}
 use mathlib.Core.List.{List}
 use Prim.Native.Nat.{ℕ, _+_, _≤_}
 use lib.ListN.{length}
-use Rattle.run.specs.declared.Stop.{Stop}
+use Rattle.report.specs.declared.Stop.{Stop}
 use Rattle.transcript.specs.Answers.{Written}
 use Rattle.printing.specs.Print.{stopLines}
 use Rattle.lines.proofs.Texts.{written-none}

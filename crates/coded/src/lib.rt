@@ -1,0 +1,79 @@
+// A macroblock that is no skip.
+ghost use mathlib.Core.Path.{_≡_};
+ghost use Prim.Native.Nat.{_-_};
+ghost use lib.ListN.{length};
+ghost use Rattle.questions.specs.Questions.{askCall};
+ghost use Rattle.outcome.specs.State.{lengthsOf};
+ghost use Rattle.outcome.specs.Decode.{decoded};
+ghost use Rattle.outcome.specs.Entry.{stateOf, quantiserBy, left};
+use apply::applied::apply_record;
+use outcome::Frame;
+use outcome::MbAnswer;
+use outcome::quantiser_after;
+use questions::Asked;
+use questions::Call;
+use reading::svq3_frame::ReadAnswer;
+use reading::svq3_frame::read_macroblock;
+use transcript::write::put_record;
+
+// Read, then written and applied.
+pub fn decode_coded(
+    y: &mut [u8],
+    cb: &mut [u8],
+    cr: &mut [u8],
+    mv: &mut [i32],
+    marks: &mut [u8],
+    transcript: &mut [u8],
+    ry: &[u8],
+    rcb: &[u8],
+    rcr: &[u8],
+    bits: &[u8],
+    frame: Frame,
+    call: Call,
+    quantiser: u32,
+    place: usize,
+    fill: usize,
+) -> MbAnswer
+    requires { ⌜ askCall (frame .cols) (frame .rows) (lengthsOf (stateOf frame quantiser (now ry) (now rcb) (now rcr) (now y) (now cb) (now cr) (now mv) (now marks))) call quantiser (length (now bits)) place (length (now transcript) - fill) ≡ Asked.Yes ⌝ }
+    ensures { λ r. ⌜ left r (stateOf frame (quantiserBy quantiser r) (now (ry .entry)) (now (rcb .entry)) (now (rcr .entry)) (now (y .exit)) (now (cb .exit)) (now (cr .exit)) (now (mv .exit)) (now (marks .exit))) (now (transcript .exit)) ≡ decoded (stateOf frame quantiser (now (ry .entry)) (now (rcb .entry)) (now (rcr .entry)) (now (y .entry)) (now (cb .entry)) (now (cr .entry)) (now (mv .entry)) (now (marks .entry))) call (now (bits .entry)) place (now (transcript .entry)) fill ⌝ }
+{
+    let mut vectors = [0i32; 32];
+    let mut levels = [0i32; 392];
+    let cols = frame.cols as usize;
+    let rows = frame.rows as usize;
+    let flags = frame.flags;
+    match read_macroblock(
+        &mut vectors,
+        &mut levels,
+        mv,
+        marks,
+        bits,
+        place,
+        cols,
+        rows,
+        call,
+        flags,
+        quantiser,
+    ) {
+        ReadAnswer::Read(head, next) => {
+            let filled = put_record(transcript, &vectors, &levels, fill, head);
+            apply_record(
+                y,
+                cb,
+                cr,
+                mv,
+                marks,
+                ry,
+                rcb,
+                rcr,
+                &vectors,
+                &levels,
+                cols,
+                rows,
+                head,
+            );
+            MbAnswer::Accepted(next, quantiser_after(quantiser, head), filled, head.clipped)
+        }
+        ReadAnswer::Refused(why) => MbAnswer::Refused(why),
+    }
+}

@@ -1,0 +1,57 @@
+-- What a call answers: refused, and nothing has changed; or accepted, with the record that was read.
+-- Assumes nothing.
+use mathlib.Core.Path.{_≡_, refl, sym, ap, _∙_}
+use mathlib.Core.List.{List}
+use Prim.Native.Nat.{ℕ, _+_, _-_, _≤_}
+use native.Mathlib.Omega.{arith}
+use lib.ListN.{length, drop}
+use Rattle.refusal.specs.Got.{Got, got, refused}
+use Rattle.refusal.specs.declared.Refusal.{Refusal}
+use Rattle.bits.specs.Bits.{bitList}
+use Rattle.questions.specs.Questions.{askCall}
+use Rattle.questions.specs.declared.Call.{Call}
+use Rattle.questions.specs.declared.Asked.{Asked}
+use Rattle.questions.specs.declared.Asked.the-variants.{Yes, No}
+use Rattle.record.specs.Record.{Record}
+use Rattle.reading.specs.Read.{readMacroblock}
+use Rattle.outcome.specs.State.{State, contextOf, lengthsOf}
+use Rattle.outcome.specs.Decode.{Outcome, kept, outcomeOf, unlessRefused, decoded}
+use Rattle.outcome.specs.declared.MbAnswer.{MbAnswer}
+use Rattle.outcome.specs.declared.MbAnswer.the-variants.{Accepted, Refused}
+
+pub data Answered (s : State) (call : Call) (bits : List ℕ) (place : ℕ) (t : List ℕ) (fill : ℕ) : Type 0 where
+  no : (why : Refusal) → decoded s call bits place t fill ≡ kept s t (Refused why) → Answered s call bits place t fill
+  yes : (r : Record) (n : ℕ) → decoded s call bits place t fill ≡ outcomeOf s place t fill (got r n) → Answered s call bits place t fill
+
+pub answered : (s : State) (call : Call) (bits : List ℕ) (place : ℕ) (t : List ℕ) (fill : ℕ) → Answered s call bits place t fill
+unfolding decoded outcomeOf
+answered s call bits place t fill =
+    go (askCall (s .cols) (s .rows) (lengthsOf s) call (s .quantiser) (length bits) place (length t - fill)) refl
+    (readMacroblock (contextOf s) call (drop place (bitList bits))) refl
+  where
+    go : (a : Asked) → askCall (s .cols) (s .rows) (lengthsOf s) call (s .quantiser) (length bits) place (length t - fill) ≡ a
+        → (g : Got Record) → readMacroblock (contextOf s) call (drop place (bitList bits)) ≡ g → Answered s call bits place t fill
+    go (No why) e g h = no why (rw e)
+    go Yes e (refused why) h = no why (rw (e, h))
+    go Yes e (got r n) h = yes r n (rw (e, h))
+
+never : {A : Type 0} {why : Refusal} {p q f k : ℕ} → Accepted p q f k ≡ Refused why → A
+never e = absurd (let z : _≡_ {A = ℕ} 0 1 = cc in omega arith)
+
+-- refused: nothing has changed
+pub refused-kept : (s : State) (call : Call) (bits : List ℕ) (place : ℕ) (t : List ℕ) (fill : ℕ) {o : Outcome} {why : Refusal} → o ≡ decoded s call bits place t fill → o .answer ≡ Refused why → o ≡ kept s t (Refused why)
+unfolding outcomeOf
+refused-kept s call bits place t fill {o} {why} e a = go (answered s call bits place t fill)
+  where
+    go : Answered s call bits place t fill → o ≡ kept s t (Refused why)
+    go (no w x) = let y = e ∙ x in y ∙ ap (λ (m : MbAnswer). kept s t m) (sym (ap (λ (p : Outcome). p .answer) y) ∙ a)
+    go (yes r n x) = never (sym (ap (λ (p : Outcome). p .answer) (e ∙ x)) ∙ a)
+
+-- accepted: the place has not moved back, and the quantiser is the state's
+pub accepted-on : (s : State) (call : Call) (bits : List ℕ) (place : ℕ) (t : List ℕ) (fill : ℕ) {o : Outcome} {p q f k : ℕ} → o ≡ decoded s call bits place t fill → o .answer ≡ Accepted p q f k → place ≤ p
+unfolding outcomeOf
+accepted-on s call bits place t fill {o} {p} {q} {f} {k} e a = go (answered s call bits place t fill)
+  where
+    go : Answered s call bits place t fill → place ≤ p
+    go (no w x) = never (sym a ∙ ap (λ (p : Outcome). p .answer) (e ∙ x))
+    go (yes r n x) = let y = sym a ∙ ap (λ (p : Outcome). p .answer) (e ∙ x) in let z : p ≡ place + n = cc in omega arith

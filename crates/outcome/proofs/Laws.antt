@@ -1,0 +1,146 @@
+-- A call at each answer, over plain lists and numbers.
+-- Assumes nothing.
+use mathlib.Core.Path.{_≡_, refl, sym, ap, _∙_}
+use mathlib.Core.List.{List}
+use Prim.Native.Nat.{ℕ, _+_, _-_, _≤_}
+use native.Mathlib.Omega.{arith}
+use lib.Dec.{eqb}
+use borrow.Author.Tests.{eq-eqb}
+use lib.IntN.{ℤ}
+use lib.ListN.{length, drop}
+use lib.Seq.{sets}
+use Rattle.ints.specs.Z.{if_then_else_}
+use Rattle.refusal.specs.Got.{Got, got, refused}
+use Rattle.refusal.specs.declared.Refusal.{Refusal}
+use Rattle.bits.specs.Bits.{bitList}
+use Rattle.picture.specs.Picture.{Within}
+use Rattle.questions.specs.Questions.{askCall}
+use Rattle.questions.specs.declared.Call.{Call}
+use Rattle.questions.specs.declared.Asked.{Asked}
+use Rattle.questions.specs.declared.Asked.the-variants.{Yes, No}
+use Rattle.questions.proofs.Yes.{Called, call-yes}
+use Rattle.record.specs.Record.{Record, recordOf, skipRecord}
+use Rattle.record.specs.Range.{RecordRange, HeadRange}
+use Rattle.record.specs.Write.{recordBytes}
+use Rattle.record.specs.declared.Head.{Head}
+use Rattle.transcript.specs.Answers.{Written}
+use Rattle.reading.specs.Read.{readMacroblock}
+use Rattle.reading.specs.Answers.{Reading}
+use Rattle.reading.specs.declared.svq3_frame.ReadAnswer.{ReadAnswer}
+use Rattle.reading.specs.declared.svq3_frame.ReadAnswer.the-variants as read
+use Rattle.reading.proofs.Answers.{ReadBy, was-read, read-refused, read-in-range, read-head-range}
+use Rattle.apply.specs.Apply.{appliedLuma, appliedChroma, appliedField}
+use Rattle.outcome.specs.State.{State, fieldOf, contextOf, lengthsOf}
+use Rattle.outcome.specs.Decode.{Outcome, quantiserAfter, applied, outcomeOf, unlessRefused, decoded}
+use Rattle.outcome.specs.Entry.{left, quantiserBy, cursorBy}
+use Rattle.outcome.specs.declared.Cursor.{Cursor}
+use Rattle.outcome.specs.declared.MbAnswer.{MbAnswer}
+use Rattle.outcome.specs.declared.MbAnswer.the-variants.{Accepted, Refused}
+
+-- the state with another quantiser, picture, vectors and marks
+abbrev pub changed : State → ℕ → List ℕ → List ℕ → List ℕ → List ℤ → List ℕ → State
+changed s quantiser y cb cr mv marks =
+    record {
+      cols = s .cols;
+      rows = s .rows;
+      halfpel = s .halfpel;
+      thirdpel = s .thirdpel;
+      delta = s .delta;
+      quantiser = quantiser;
+      ry = s .ry;
+      rcb = s .rcb;
+      rcr = s .rcr;
+      y = y;
+      cb = cb;
+      cr = cr;
+      mv = mv;
+      marks = marks;
+    }
+
+module _ (s : State) (call : Call) (bits : List ℕ) (place : ℕ) (transcript : List ℕ) (fill : ℕ) where
+  abbrev pub asked : Asked
+  asked = askCall (s .cols) (s .rows) (lengthsOf s) call (s .quantiser) (length bits) place (length transcript - fill)
+
+  -- what is read
+  abbrev pub found : Got Record
+  found = readMacroblock (contextOf s) call (drop place (bitList bits))
+
+  pub asked-by : (answer : Asked) (free : ℕ) → answer ≡ askCall (s .cols) (s .rows) (lengthsOf s) call (s .quantiser) (length bits) place free → free ≡ length transcript - fill → answer ≡ asked
+  asked-by answer free e f = e ∙ ap (λ (n : ℕ). askCall (s .cols) (s .rows) (lengthsOf s) call (s .quantiser) (length bits) place n) f
+
+  -- ---- a question was answered with no
+  pub not-asked : (answer : Asked) (why : Refusal) → answer ≡ asked → answer ≡ No why → left (Refused why) s transcript ≡ decoded s call bits place transcript fill
+  unfolding decoded
+  not-asked answer why e is = rw (sym e ∙ is)
+
+  -- ---- all were answered with yes
+  module _ (yes : asked ≡ Yes) where
+    abbrev pub Facts : Type 0
+    Facts = Called (s .cols) (s .rows) (lengthsOf s) call (s .quantiser) (length bits) place (length transcript - fill)
+
+    pub facts : Facts
+    facts = call-yes (s .cols) (s .rows) (lengthsOf s) call (s .quantiser) (length bits) place (length transcript - fill) yes
+
+    pub within : Within (s .cols) (s .rows) (call .column) (call .row)
+    within = record { across = facts .rest .column; down = facts .rest .row; wide = facts .in-grid .most-cols; high = facts .in-grid .most-rows }
+
+    pub room : fill + 2089 ≤ length transcript
+    room = omega (arith, facts .rest .free-bytes)
+
+    on : (o : Got Record) → found ≡ o → outcomeOf s place transcript fill o ≡ decoded s call bits place transcript fill
+    unfolding decoded
+    on o e = rw (yes, e)
+
+    pub not-read : (answer : ReadAnswer) (why : Refusal) (vs ls : List ℤ) → Reading place found answer vs ls → answer ≡ read.Refused why
+        → left (Refused why) s transcript ≡ decoded s call bits place transcript fill
+    unfolding outcomeOf
+    not-read answer why vs ls r is = on (refused why) (read-refused place found why vs ls (rw is at r))
+
+    -- ---- a skip: nothing is read
+    pub skipped : call .mode ≡ 0 → (filled : ℕ) (y cb cr : List ℕ) (mv : List ℤ) (marks bytes : List ℕ)
+        → Written transcript fill (recordBytes (skipRecord (call .column) (call .row))) filled bytes
+        → y ≡ appliedLuma (s .cols) (s .rows) (s .ry) (skipRecord (call .column) (call .row)) (s .y)
+        → cb ≡ appliedChroma 0 (s .cols) (s .rows) (s .rcb) (skipRecord (call .column) (call .row)) (s .cb)
+        → cr ≡ appliedChroma 1 (s .cols) (s .rows) (s .rcr) (skipRecord (call .column) (call .row)) (s .cr)
+        → mv ≡ appliedField (skipRecord (call .column) (call .row)) (fieldOf s) .mv
+        → marks ≡ appliedField (skipRecord (call .column) (call .row)) (fieldOf s) .marks
+        → left (Accepted place (s .quantiser) filled 0) (changed s (s .quantiser) y cb cr mv marks) bytes ≡ decoded s call bits place transcript fill
+    unfolding outcomeOf applied quantiserAfter skipRecord readMacroblock if_then_else_
+    skipped m filled y cb cr mv marks bytes w ey ecb ecr em ek =
+        let e : found ≡ got (skipRecord (call .column) (call .row)) 0 = rw (eq-eqb (call .mode) 0 m) in
+        let p : place ≡ place + 0 = omega arith in
+        (λ i. left (Accepted (p i) (s .quantiser) (w .moved i) 0) (changed s (s .quantiser) (ey i) (ecb i) (ecr i) (em i) (ek i)) (w .leaves i)) ∙ on (got (skipRecord (call .column) (call .row)) 0) e
+
+    -- ---- a record was read
+    module _ (answer : ReadAnswer) (h : Head) (next : ℕ) (vs ls : List ℤ) (r : Reading place found answer vs ls) (is : answer ≡ read.Read h next) where
+      said : Reading place found (read.Read h next) vs ls
+      said = rw is at r
+
+      by : ReadBy place found h next vs ls
+      by = was-read place found h next vs ls said
+
+      pub range : RecordRange (s .cols) (s .rows) (recordOf h vs ls)
+      range = read-in-range (contextOf s) call within (facts .rest .mode) (facts .rest .quantiser-most) (drop place (bitList bits)) place h next vs ls said
+
+      pub head-in : HeadRange h
+      head-in = read-head-range (contextOf s) call within (facts .rest .mode) (facts .rest .quantiser-most) (drop place (bitList bits)) place h next vs ls said
+
+      -- it is written to the transcript and applied
+      pub accepted : (quantiser filled : ℕ) (y cb cr : List ℕ) (mv : List ℤ) (marks bytes : List ℕ)
+          → quantiser ≡ (if eqb (h .mode) 0 then s .quantiser else h .quantiser)
+          → Written transcript fill (recordBytes (recordOf h vs ls)) filled bytes
+          → y ≡ appliedLuma (s .cols) (s .rows) (s .ry) (recordOf h vs ls) (s .y)
+          → cb ≡ appliedChroma 0 (s .cols) (s .rows) (s .rcb) (recordOf h vs ls) (s .cb)
+          → cr ≡ appliedChroma 1 (s .cols) (s .rows) (s .rcr) (recordOf h vs ls) (s .cr)
+          → mv ≡ appliedField (recordOf h vs ls) (fieldOf s) .mv
+          → marks ≡ appliedField (recordOf h vs ls) (fieldOf s) .marks
+          → left (Accepted next quantiser filled (h .clipped)) (changed s quantiser y cb cr mv marks) bytes ≡ decoded s call bits place transcript fill
+      unfolding outcomeOf applied quantiserAfter
+      accepted quantiser filled y cb cr mv marks bytes q w ey ecb ecr em ek =
+          (λ i. left (Accepted (by .moved i) (q i) (w .moved i) (h .clipped)) (changed s (q i) (ey i) (ecb i) (ecr i) (em i) (ek i)) (w .leaves i))
+          ∙ on (got (recordOf h vs ls) (by .taken)) (by .is)
+
+-- ---- the caller's record moved on by an answer has the answer's quantiser
+pub moved-quantiser : (place q : ℕ) (m : MbAnswer) (c : Cursor) → c ≡ cursorBy place q m → c .quantiser ≡ quantiserBy q m
+moved-quantiser place q (Accepted next quantiser fill clipped) c e = ap (λ (x : Cursor). x .quantiser) e
+moved-quantiser place q (Refused why) c e = ap (λ (x : Cursor). x .quantiser) e

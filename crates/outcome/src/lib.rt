@@ -1,0 +1,51 @@
+// What one call finds, answers and leaves: its types, and the definition of a call (specs/Decode.antt).
+ghost use mathlib.Core.Path.{_≡_};
+ghost use lib.Dec.{eqb};
+ghost use Rattle.ints.specs.Z.{if_then_else_};
+ghost use Rattle.outcome.specs.Entry.{cursorBy};
+use reading::svq3_frame::Flags;
+use record::Head;
+use refusal::Refusal;
+
+pub enum MbAnswer {
+    // the place after it, the quantiser, the transcript's fill after it and the clipped count
+    Accepted(usize, u32, usize, u32),
+    Refused(Refusal),
+}
+
+// What a run has fixed: the grid and the flags.
+pub struct Frame {
+    pub cols: u32,
+    pub rows: u32,
+    pub flags: Flags,
+}
+
+// The caller's own record of place and quantiser.
+pub struct Cursor {
+    pub place: usize,
+    pub quantiser: u32,
+}
+
+// The quantiser afterwards: a skip keeps it.
+pub fn quantiser_after(quantiser: u32, head: Head) -> u32
+    ensures { λ r. ⌜ r ≡ (if eqb (head .mode) 0 then quantiser else head .quantiser) ⌝ }
+{
+    if head.mode == 0 {
+        quantiser
+    } else {
+        head.quantiser
+    }
+}
+
+// Where a call leaves the caller: past an accepted macroblock, where it was at a refusal.
+pub fn cursor_by(place: usize, quantiser: u32, answer: MbAnswer) -> Cursor
+    ensures { λ r. ⌜ r ≡ cursorBy place quantiser answer ⌝ }
+{
+    match answer {
+        MbAnswer::Accepted(next, after, _, _) => Cursor {
+            place: next,
+            quantiser: after,
+        },
+        MbAnswer::Refused(_) => Cursor { place, quantiser },
+    }
+}

@@ -1,0 +1,100 @@
+-- One record: none is there, a skip, or another one.
+-- Assumes nothing.
+use mathlib.Core.Path.{_≡_, refl, sym, ap, _∙_}
+use mathlib.Core.List.{List, []}
+use Prim.Native.Nat.{ℕ, _+_, _≤_}
+use lib.Dec.{eqb}
+use lib.IntN.{ℤ}
+use lib.ListN.{drop}
+use Rattle.ints.specs.Z.{if_then_else_}
+use Rattle.refusal.specs.Got.{Got, got}
+use Rattle.refusal.proofs.Formats.{got-value, got-count, never}
+use Rattle.refusal.specs.declared.Refusal.{Refusal}
+use Rattle.record.specs.Record.{Record, recordOf, noVectors, noLevels, skipRecord}
+use Rattle.record.specs.Parse.{parseMotion, parseRecord}
+use Rattle.record.specs.Range.{RecordRange}
+use Rattle.record.specs.declared.Head.{Head}
+use Rattle.record.proofs.Records.{record-format}
+use Rattle.transcript.specs.Answers.{placeAnswer, Parsing}
+use Rattle.transcript.specs.Place.{parsePlace}
+use Rattle.transcript.specs.declared.parse.ParseAnswer.{ParseAnswer}
+use Rattle.transcript.specs.declared.parse.ParseAnswer.the-variants.{Parsed, Refused}
+use Rattle.transcript.proofs.Answers.{parsed, parse-refused}
+use Rattle.transcript.proofs.Places.{PlaceRange, placed-range, not-parsed, skip-is, skip-parsed, coded-parsed}
+use Rattle.apply.specs.Apply.{appliedLuma, appliedChroma, appliedField}
+use Rattle.outcome.specs.State.{State, fieldOf}
+use Rattle.outcome.specs.Decode.{applied, quantiserAfter}
+use Rattle.outcome.proofs.Laws.{changed}
+use Rattle.redo.specs.Stepped.{Stepped}
+
+module _ (s : State) (bytes : List ℕ) (at : ℕ) where
+  abbrev read : Got Record
+  read = parseRecord (s .cols) (s .rows) (drop at bytes)
+
+  -- none is there
+  none : {vs ls : List ℤ} (why : Refusal) → Parsing at read (Refused why) vs ls → (next : ℕ) (t : State) → Stepped read at next s t
+  none {vs} {ls} why p next t =
+      let e = parse-refused at read why vs ls p in
+      record { moved = λ r n f. never (sym e ∙ f); leaves = λ r n f. never (sym e ∙ f) }
+
+  pub no-place : (why : Refusal) → Refused why ≡ placeAnswer at (parsePlace (s .cols) (s .rows) (drop at bytes)) → (next : ℕ) (t : State) → Stepped (parseRecord (s .cols) (s .rows) (drop at bytes)) at next s t
+  no-place why e = none why (not-parsed (s .cols) (s .rows) bytes at why e [] [])
+
+  module _ (h : Head) (next : ℕ) (e : Parsed h next ≡ placeAnswer at (parsePlace (s .cols) (s .rows) (drop at bytes))) where
+    pub in-place : PlaceRange (s .cols) (s .rows) h
+    in-place = placed-range (s .cols) (s .rows) bytes at h next e
+
+    done : {o : Head} {end : ℕ} {vs ls : List ℤ} → Parsing at read (Parsed o end) vs ls → (t : State) → t ≡ applied s (recordOf o vs ls) → Stepped read at end s t
+    done {o} {end} {vs} {ls} p t w =
+        let b = parsed at read o end vs ls p in
+        record {
+          moved = λ r n f. b .moved ∙ ap (λ (m : ℕ). at + m) (got-count (sym (b .is) ∙ f));
+          leaves = λ r n f. w ∙ ap (applied s) (got-value (sym (b .is) ∙ f));
+        }
+
+    -- a skip
+    pub skip-step : h .mode ≡ 0 → (t : State) → t ≡ applied s (skipRecord (h .column) (h .row)) → Stepped (parseRecord (s .cols) (s .rows) (drop at bytes)) at next s t
+    unfolding skipRecord
+    skip-step z t w =
+        done (skip-parsed (s .cols) (s .rows) bytes at h next e z noVectors noLevels refl refl) t
+        (w ∙ ap (λ (x : Head). applied s (recordOf x noVectors noLevels)) (sym (skip-is (s .cols) (s .rows) bytes at h next e z)))
+
+    -- another one, whose motion was read
+    module _ (z : h .mode ≡ 0 → ⊥) (a : ParseAnswer) (vs ls : List ℤ) (p : Parsing next (parseMotion h (drop next bytes)) a vs ls) where
+      whole-is : Parsing at read a vs ls
+      whole-is = coded-parsed (s .cols) (s .rows) bytes at h next e z a vs ls p
+
+      pub no-motion : (why : Refusal) → a ≡ Refused why → (end : ℕ) (t : State) → Stepped (parseRecord (s .cols) (s .rows) (drop at bytes)) at end s t
+      no-motion why i = none why (rw i at whole-is)
+
+      module _ (o : Head) (end : ℕ) (i : a ≡ Parsed o end) where
+        pub coded-range : s .cols ≤ 4096 → s .rows ≤ 4096 → RecordRange (s .cols) (s .rows) (recordOf o vs ls)
+        coded-range wide high =
+            let b = parsed at read o end vs ls (rw i at whole-is) in
+            record-format (s .cols) (s .rows) wide high .came (drop at bytes) (recordOf o vs ls) (b .taken) (b .is) .in-range
+
+        pub coded-step : (t : State) → t ≡ applied s (recordOf o vs ls) → Stepped (parseRecord (s .cols) (s .rows) (drop at bytes)) at end s t
+        coded-step = done (rw i at whole-is)
+
+-- a record's work, list by list
+pub applied-is : (s : State) (r : Record) {q : ℕ} {y cb cr : List ℕ} {mv : List ℤ} {marks : List ℕ}
+    → q ≡ (if eqb (r .head .mode) 0 then s .quantiser else r .head .quantiser)
+    → y ≡ appliedLuma (s .cols) (s .rows) (s .ry) r (s .y)
+    → cb ≡ appliedChroma 0 (s .cols) (s .rows) (s .rcb) r (s .cb)
+    → cr ≡ appliedChroma 1 (s .cols) (s .rows) (s .rcr) r (s .cr)
+    → mv ≡ appliedField r (fieldOf s) .mv
+    → marks ≡ appliedField r (fieldOf s) .marks
+    → changed s q y cb cr mv marks ≡ applied s r
+unfolding applied quantiserAfter
+applied-is s r eq ey ecb ecr em ek = λ i. changed s (eq i) (ey i) (ecb i) (ecr i) (em i) (ek i)
+
+-- the same of a skip
+pub skip-applied : (s : State) (column row : ℕ) {y cb cr : List ℕ} {mv : List ℤ} {marks : List ℕ}
+    → y ≡ appliedLuma (s .cols) (s .rows) (s .ry) (skipRecord column row) (s .y)
+    → cb ≡ appliedChroma 0 (s .cols) (s .rows) (s .rcb) (skipRecord column row) (s .cb)
+    → cr ≡ appliedChroma 1 (s .cols) (s .rows) (s .rcr) (skipRecord column row) (s .cr)
+    → mv ≡ appliedField (skipRecord column row) (fieldOf s) .mv
+    → marks ≡ appliedField (skipRecord column row) (fieldOf s) .marks
+    → changed s (s .quantiser) y cb cr mv marks ≡ applied s (skipRecord column row)
+unfolding applied quantiserAfter skipRecord if_then_else_
+skip-applied s column row ey ecb ecr em ek = λ i. changed s (s .quantiser) (ey i) (ecb i) (ecr i) (em i) (ek i)

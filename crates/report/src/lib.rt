@@ -1,0 +1,60 @@
+// What a run says of itself, and the definition of a run (specs/Run.antt).
+ghost use mathlib.Core.Path.{_≡_};
+ghost use Prim.Native.Nat.{_≤_};
+ghost use Rattle.questions.specs.Questions.{askRun};
+ghost use Rattle.report.specs.Run.{stopOf};
+ghost use Rattle.report.specs.Left.{reportOf};
+use outcome::Frame;
+use questions::Asked;
+use questions::Lengths;
+use questions::ask_run;
+use refusal::Refusal;
+
+// Why a run ended.
+pub enum Stop {
+    // every call was made
+    Done,
+    // the refusal that stopped it
+    By(Refusal),
+}
+
+// What a run did: the accepted calls and the bits that they consumed, as made; then the place, the quantiser and the transcript's fill.
+pub struct Report {
+    pub accepted: usize,
+    pub consumed: usize,
+    pub place: usize,
+    pub quantiser: u32,
+    pub fill: usize,
+    pub stop: Stop,
+}
+
+pub fn report_of(
+    accepted: usize,
+    first: usize,
+    place: usize,
+    quantiser: u32,
+    fill: usize,
+    stop: Stop,
+) -> Report
+    requires { ⌜ first ≤ place ⌝ }
+    ensures { λ r. ⌜ r ≡ reportOf accepted first place quantiser fill stop ⌝ }
+{
+    Report {
+        accepted,
+        consumed: place - first,
+        place,
+        quantiser,
+        fill,
+        stop,
+    }
+}
+
+// A run with no call: its questions are asked all the same.
+pub fn run_nothing(frame: Frame, l: Lengths, quantiser: u32, size: usize, place: usize) -> Report
+    ensures { λ r. ⌜ r ≡ reportOf 0 place place quantiser 0 (stopOf (askRun (frame .cols) (frame .rows) l quantiser size place)) ⌝ }
+{
+    match ask_run(frame.cols, frame.rows, l, quantiser, size, place) {
+        Asked::Yes => report_of(0, place, place, quantiser, 0, Stop::Done),
+        Asked::No(why) => report_of(0, place, place, quantiser, 0, Stop::By(why)),
+    }
+}

@@ -1,0 +1,74 @@
+// The calls of a list, one after another, until one is refused.
+ghost use mathlib.Core.Path.{_≡_};
+ghost use Rattle.outcome.specs.Entry.{stateOf};
+ghost use Rattle.report.specs.Left.{Listed, leftOf, callsLeft};
+use calls::CallAnswer;
+use calls::read_call;
+use macroblock::svq3_frame::decode_inter_mb;
+use outcome::Frame;
+use outcome::MbAnswer;
+use refusal::Refusal;
+use report::Report;
+use report::Stop;
+use report::report_of;
+
+// The calls of a list that is in form.
+pub fn run_calls(
+    y: &mut [u8],
+    cb: &mut [u8],
+    cr: &mut [u8],
+    mv: &mut [i32],
+    marks: &mut [u8],
+    transcript: &mut [u8],
+    ry: &[u8],
+    rcb: &[u8],
+    rcr: &[u8],
+    bits: &[u8],
+    list: &[u8],
+    frame: Frame,
+    quantiser: u32,
+    place: usize,
+) -> Report
+    requires { ⌜ Listed (now list) ⌝ }
+    ensures { λ r. ⌜ leftOf r frame (now (ry .entry)) (now (rcb .entry)) (now (rcr .entry)) (now (y .exit)) (now (cb .exit)) (now (cr .exit)) (now (mv .exit)) (now (marks .exit)) (now (transcript .exit)) ≡ callsLeft (stateOf frame quantiser (now (ry .entry)) (now (rcb .entry)) (now (rcr .entry)) (now (y .entry)) (now (cb .entry)) (now (cr .entry)) (now (mv .entry)) (now (marks .entry))) (now (list .entry)) (now (bits .entry)) place (now (transcript .entry)) ⌝ }
+{
+    let mut q = quantiser;
+    let mut p = place;
+    let mut fill = 0;
+    let mut accepted = 0;
+    let mut at = 0;
+    while at < list.len() {
+        let CallAnswer::Call(call, next) = read_call(list, at) else {
+            return report_of(accepted, place, p, q, fill, Stop::By(Refusal::NumberForm));
+        };
+        match decode_inter_mb(
+            y,
+            cb,
+            cr,
+            mv,
+            marks,
+            transcript,
+            ry,
+            rcb,
+            rcr,
+            bits,
+            frame,
+            call,
+            q,
+            p,
+            fill,
+        ) {
+            MbAnswer::Accepted(after, quantiser_after, fill_after, _) => {
+                p = after;
+                q = quantiser_after;
+                fill = fill_after;
+                accepted += 1;
+                at = next;
+            }
+            MbAnswer::Refused(why) => {
+                return report_of(accepted, place, p, q, fill, Stop::By(why));
+            }
+        }
+    }
+    report_of(accepted, place, p, q, fill, Stop::Done)
+}
