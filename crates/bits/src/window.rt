@@ -86,7 +86,7 @@ fn short_in(byte: u32) -> ShortCode
     ShortCode {
         size,
         half: ((data << (size / 2)) >> 8) % 8,
-        last: (byte >> (9 - size)) % 2,
+        last: ((byte << size) >> 9) % 2,
     }
 }
 

@@ -1,10 +1,11 @@
 -- What is taken from a window is what the code at the place says.
 -- Assumes nothing.
 use mathlib.Core.Path.{_≡_, refl, sym, ap, subst, _∙_}
-use mathlib.Core.Bool.{Bool}
+use mathlib.Core.Bool.{Bool, true, _&&_}
 use mathlib.Core.List.{List}
 use Prim.Native.Nat.{ℕ, _+_, _-_, _*_, _^_, _<_}
 use native.Mathlib.Omega.{arith}
+use lib.Dec.{T, ltb, ltb→lt}
 use lib.IntN.{ℤ}
 use lib.ListN.{drop, getD}
 use lib.Seq.{drop-drop}
@@ -23,12 +24,18 @@ use Rattle.residual.specs.declared.svq3_coeff.ResidualBook.the-variants.
 use Rattle.residual.specs.declared.svq3_coeff.LevelRun.the-variants as said
 use Rattle.residual.specs.declared.svq3_coeff.Step.{Step}
 use Rattle.residual.specs.declared.svq3_coeff.Step.the-variants.{Level, End}
+use Rattle.residual.proofs.Table.{both-left, both-right}
 use Rattle.residual.proofs.Entries.{entry-said, resolves}
 use Rattle.residual.proofs.Steps.{step-level, step-end}
 
 above : (book : ResidualBook) → 16 < escape book
 above NormalScan = omega arith
 above ChromaDc = omega arith
+
+pub between : (size : ℕ) → (ltb 1 size && ltb size 9) ≡ true → (1 < size) × (size < 9)
+between size e =
+    let t = subst T (sym e) tt in
+    (ltb→lt 1 size (both-left (ltb 1 size) (ltb size 9) t), ltb→lt size 9 (both-right (ltb 1 size) (ltb size 9) t))
 
 module _ (book : ResidualBook) (bits : List Bool) (at : ℕ) where
   -- read from the bytes, with an empty window behind
@@ -39,11 +46,11 @@ module _ (book : ResidualBook) (bits : List Bool) (at : ℕ) where
   answered k n e = rw e
 
   module _ (size i last : ℕ) (short : ShortAt (drop at bits) size i last) (word left : ℕ) where
-    pub end-stepped : size ≡ 1 → Stepped book bits at (End (at + size)) word left
+    pub end-stepped : size ≡ 1 → Stepped book bits at (End (at + 1)) word left
     unfolding resolve
     end-stepped e =
         record {
-          says = ap (λ (n : ℕ). End (at + n)) e ∙ step-end at book (drop at bits) 0 (at + 1) (answered 0 1 (short .zero-code e)) refl;
+          says = step-end at book (drop at bits) 0 (at + 1) (answered 0 1 (short .zero-code e)) refl;
           shows = λ l r q f. absurd (let z : _≡_ {A = ℕ} 0 1 = cc in omega arith);
         }
 

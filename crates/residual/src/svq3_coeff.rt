@@ -180,25 +180,25 @@ fn next_level(bits: &[u8], at: usize, book: ResidualBook, window: Window) -> Tak
     let short = short_code(filled);
     let size = short.size;
     let half = short.half;
-    if size == 9 {
-        let step = read_level(bits, at, book);
+    if (1 < size) & (size < 9) {
+        let next = at + size as usize;
+        let pair = short_pair(book, half);
+        let level = level_of(2 * half + short.last - 1, pair.magnitude);
         return Taken {
-            step,
-            window: Window { word: 0, left: 0 },
+            step: Step::Level(level, pair.run, next),
+            window: pass(filled, size),
         };
     }
-    let next = at + size as usize;
     if size == 1 {
         return Taken {
-            step: Step::End(next),
+            step: Step::End(at + 1),
             window: filled,
         };
     }
-    let pair = short_pair(book, half);
-    let level = level_of(2 * half + short.last - 1, pair.magnitude);
+    let step = read_level(bits, at, book);
     Taken {
-        step: Step::Level(level, pair.run, next),
-        window: pass(filled, size),
+        step,
+        window: Window { word: 0, left: 0 },
     }
 }
 

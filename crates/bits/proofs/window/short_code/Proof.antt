@@ -1,8 +1,7 @@
 -- `bits::window::short_code`: what the highest byte of the word says, where it is shown.
-use mathlib.Core.Path.{_≡_, subst, sym}
+use mathlib.Core.Path.{subst, sym}
 use mathlib.Core.Bool.{Bool}
 use mathlib.Core.List.{List}
-use Prim.Native.Nat.{_/_, _^_}
 use native.Mathlib.Omega.{arith}
 use borrow.Author.Needs.{needs}
 use Rattle.bits.specs.Window.{ShortAt}

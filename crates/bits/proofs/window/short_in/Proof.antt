@@ -20,7 +20,7 @@ abbrev half : ℕ → ℕ
 half w = bitOr (3 * bitAnd w 0x50) 0x80 * 2 ^ (size w / 2) % 2 ^ 32 / 2 ^ 8 % 8
 
 abbrev last : ℕ → ℕ
-last w = w / 2 ^ (9 - size w) % 2
+last w = w * 2 ^ size w % 2 ^ 32 / 2 ^ 9 % 2
 
 says : (w : ℕ) → w < 256 → (rest : List Bool) → ShortAt (byteBits w ++ rest) (size w) (half w) (last w)
 unfolding leadingZeros
@@ -32,11 +32,11 @@ mul-data c = omega (arith, and-le-r (c .args .byte) 0x50)
 shl-t6 : tie.Need-shl-t6
 shl-t6 c = omega (arith, says (c .args .byte) (c .pre) [] .within)
 
-sub-t8 : tie.Need-sub-t8
-sub-t8 c = says (c .args .byte) (c .pre) [] .within
+shl-t8 : tie.Need-shl-t8
+shl-t8 c = omega (arith, says (c .args .byte) (c .pre) [] .within)
 
 returns : tie.Need-returns
 returns c = says (c .args .byte) (c .pre)
 
 pub short-in-spec : {M : Type 1} → statement M
-short-in-spec = tie.close (tie.spec (λ c. search needs) mul-data shl-t6 sub-t8 (λ c. search needs) returns)
+short-in-spec = tie.close (tie.spec (λ c. search needs) mul-data shl-t6 shl-t8 returns)

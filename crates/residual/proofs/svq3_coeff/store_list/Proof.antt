@@ -1,5 +1,5 @@
 -- `residual::svq3_coeff::store_list` stores as many levels as the list has positions.
-use mathlib.Core.Path.{subst, sym, _∙_}
+use mathlib.Core.Path.{subst}
 use Prim.Native.Nat.{_+_, _≤_}
 use native.Mathlib.Omega.{arith}
 use borrow.Author.Needs.{needs}
