@@ -23,14 +23,14 @@ pub present-most : (a : Near) → present a ≤ 1
 present-most Missing = omega arith
 present-most (Here v) = omega arith
 
-module _ (a b c : Near) where
-  pub few : present a + present b + present c < 2 → combined a b c ≡ vectorOf (orElse a (orElse b c))
+module _ (a b c : Near) {l m n : ℕ} (p : l ≡ present a) (q : m ≡ present b) (r : n ≡ present c) where
+  pub few : l + m + n < 2 → combined a b c ≡ vectorOf (orElse a (orElse b c))
   unfolding combined
-  few h = if-yes _ _ _ (lt-ltb _ _ h)
+  few h = if-yes _ _ _ (lt-ltb (present a + present b + present c) 2 (omega arith))
 
-  pub several : 2 ≤ present a + present b + present c → combined a b c ≡ medianOf (vectorOf a) (vectorOf b) (vectorOf c)
+  pub several : 2 ≤ l + m + n → combined a b c ≡ medianOf (vectorOf a) (vectorOf b) (vectorOf c)
   unfolding combined
-  several h = if-no _ _ _ (le-ltb _ _ h)
+  several h = if-no _ _ _ (le-ltb (present a + present b + present c) 2 (omega arith))
 
 -- ---- held in the picture
 -- six for each sample, as the machine computes it

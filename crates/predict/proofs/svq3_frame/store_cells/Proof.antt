@@ -1,5 +1,5 @@
 -- `predict::svq3_frame::store_cells` stores as `store_rows` does, whatever the width.
-use borrow.Author.Needs.{needs}
+use native.Mathlib.Omega.{arith}
 use Rattle.predict.proofs.Storing.{stored-read}
 use Rattle.predict.proofs.svq3_frame.store_cells.Statement.{statement}
 use Rattle.predict.proofs.svq3_frame.store_cells.Tie as tie
@@ -47,16 +47,16 @@ store-cells-spec =
     store-rows-requires
     store-rows-requires-2
     store-rows-requires-3
-    (λ c κs. search needs)
-    (λ c. search needs)
-    (λ c. search needs)
+    (λ c κs. c .before .before .before .before .before .before .pre)
+    (λ c. omega arith)
+    (λ c. omega arith)
     returns
-    (λ c. search needs)
-    (λ c. search needs)
+    (λ c. omega arith)
+    (λ c. omega arith)
     returns-2
-    (λ c. search needs)
-    (λ c. search needs)
+    (λ c. omega arith)
+    (λ c. omega arith)
     returns-3
-    (λ c. search needs)
-    (λ c. search needs)
+    (λ c. omega arith)
+    (λ c. omega arith)
     returns-4)
