@@ -143,6 +143,11 @@ pub fn decode_inter_mb(
 ) -> MbAnswer
     ensures { λ r. ⌜ left r (stateOf frame (quantiserBy quantiser r) (now (ry .entry)) (now (rcb .entry)) (now (rcr .entry)) (now (y .exit)) (now (cb .exit)) (now (cr .exit)) (now (mv .exit)) (now (marks .exit))) (now (transcript .exit)) ≡ decoded (stateOf frame quantiser (now (ry .entry)) (now (rcb .entry)) (now (rcr .entry)) (now (y .entry)) (now (cb .entry)) (now (cr .entry)) (now (mv .entry)) (now (marks .entry))) call (now (bits .entry)) place (now (transcript .entry)) fill ⌝ }
 {
+    // Read one by one and at once: a wide load of two numbers that were just stored apart would wait for every store before them.
+    let column = call.column;
+    let row = call.row;
+    let mode = call.mode;
+    let made = Call { column, row, mode };
     let l = Lengths {
         y: y.len(),
         cb: cb.len(),
@@ -158,7 +163,7 @@ pub fn decode_inter_mb(
         frame.cols,
         frame.rows,
         l,
-        call,
+        made,
         quantiser,
         bits.len(),
         place,
@@ -176,7 +181,7 @@ pub fn decode_inter_mb(
             rcr,
             bits,
             frame,
-            call,
+            made,
             quantiser,
             place,
             fill,
