@@ -77,13 +77,13 @@ of-first x y m h = let e : (256 * x + y) / 2 ^ 8 ≡ x = omega arith in sym (shr
 abbrev cut : ℕ → ℕ → ℕ → ℕ
 cut x y r = (256 * x + y) / 2 ^ (8 - r) % 256
 
--- by a shift to the left of a 32-bit number, and one to the right
-pub shifted : (x y r : ℕ) → x < 256 → y < 256 → r < 8 → (256 * x + y) * 2 ^ r % 2 ^ 32 / 2 ^ 8 % 256 ≡ cut x y r
+-- nine bits by a shift to the left of a 32-bit number, and one to the right
+pub shifted : (x y r : ℕ) → x < 256 → y < 256 → r < 8 → (256 * x + y) * 2 ^ r % 2 ^ 32 / 2 ^ 7 % 512 ≡ (256 * x + y) / 2 ^ (7 - r) % 512
 shifted x y r a b h =
     let n = 256 * x + y in
     let l : n < 2 ^ 16 = omega arith in
-    let e : r + (8 - r) ≡ 8 = omega arith in
-    rw (shl-exact 16 r 32 l (omega arith)) (sym (ap (λ (k : ℕ). k % 256) (sym (ap (λ (k : ℕ). k / 2 ^ (8 - r)) (shl-shr n r)) ∙ shr-shr (n * 2 ^ r) r (8 - r) ∙ ap (λ (k : ℕ). n * 2 ^ r / 2 ^ k) e)))
+    let e : r + (7 - r) ≡ 7 = omega arith in
+    rw (shl-exact 16 r 32 l (omega arith)) (sym (ap (λ (k : ℕ). k % 512) (sym (ap (λ (k : ℕ). k / 2 ^ (7 - r)) (shl-shr n r)) ∙ shr-shr (n * 2 ^ r) r (7 - r) ∙ ap (λ (k : ℕ). n * 2 ^ r / 2 ^ k) e)))
 
 module _ (x y r j : ℕ) (byte : y < 256) (place : r < 8) (below : j < 8) where
   cut-bit : cut x y r / 2 ^ (7 - j) % 2 ≡ (256 * x + y) / 2 ^ (8 - r + (7 - j)) % 2
@@ -124,7 +124,31 @@ module _ (s : List ℕ) (p : ℕ) (within : p / 8 + 1 < length s) (byte : getD s
       here s (p + j) (omega arith) ∙ ap₂ (λ b n. b ∷ drop n (bitList s)) (cut-at j h) e
 
   -- they are the byte that is cut out of the two bytes
-  pub byte-at : drop p (bitList s) ≡ byteBits w ++ drop (p + 8) (bitList s)
+  byte-at : drop p (bitList s) ≡ byteBits w ++ drop (p + 8) (bitList s)
   byte-at =
       let z : p ≡ p + 0 = omega arith in
       ap (λ (n : ℕ). drop n (bitList s)) z ∙ rw (next-bit 0 (lit< tt), next-bit 1 (lit< tt), next-bit 2 (lit< tt), next-bit 3 (lit< tt), next-bit 4 (lit< tt), next-bit 5 (lit< tt), next-bit 6 (lit< tt), next-bit 7 (lit< tt), div-one w)
+
+  -- ---- and the ninth
+  abbrev v : ℕ
+  v = (256 * getD s (p / 8) 0 + getD s (p / 8 + 1) 0) / 2 ^ (7 - p % 8) % 512
+
+  half-nine : v / 2 ≡ w
+  half-nine =
+      let n = 256 * getD s (p / 8) 0 + getD s (p / 8 + 1) 0 in
+      let e : 7 - p % 8 + 1 ≡ 8 - p % 8 = omega arith in
+      let h : n / 2 ^ (7 - p % 8) % 512 / 2 ≡ n / 2 ^ (7 - p % 8) / 2 ^ 1 % 256 = omega arith in
+      h ∙ ap (λ (k : ℕ). k % 256) (shr-shr n (7 - p % 8) 1 ∙ ap (λ (k : ℕ). n / 2 ^ k) e)
+
+  ninth-bit : getD (bitList s) (p + 8) false ≡ odd v
+  ninth-bit =
+      let n = 256 * getD s (p / 8) 0 + getD s (p / 8 + 1) 0 in
+      let q : (p + 8) / 8 ≡ p / 8 + 1 = omega arith in
+      let r : (p + 8) % 8 ≡ p % 8 = omega arith in
+      let h : n / 2 ^ (7 - p % 8) % 512 % 2 ≡ n / 2 ^ (7 - p % 8) % 2 = omega arith in
+      bit-at s (p + 8) (omega arith) ∙ ap₂ (λ a b. odd (getD s a 0 / 2 ^ (7 - b))) q r ∙ ap (λ (k : ℕ). eqb k 1) (sym (h ∙ of-second (getD s (p / 8) 0) (getD s (p / 8 + 1) 0) (7 - p % 8) (omega arith)))
+
+  pub nine-at : (drop p (bitList s) ≡ byteBits (v / 2) ++ drop (p + 8) (bitList s)) × (drop (p + 8) (bitList s) ≡ odd v ∷ drop (p + 9) (bitList s))
+  nine-at =
+      let e : p + 8 + 1 ≡ p + 9 = omega arith in
+      (byte-at ∙ ap (λ (k : ℕ). byteBits k ++ drop (p + 8) (bitList s)) (sym half-nine), here s (p + 8) (omega arith) ∙ ap₂ (λ b n. b ∷ drop n (bitList s)) ninth-bit e)

@@ -2,7 +2,7 @@
 -- Assumes nothing.
 use mathlib.Core.Path.{_≡_, refl, sym, ap, ap₂, subst, _∙_}
 use mathlib.Core.Bool.{Bool, true, false, cond, _&&_, _||_}
-use mathlib.Core.List.{List, _∷_, _++_}
+use mathlib.Core.List.{List, [], _∷_, _++_}
 use Prim.Native.Nat.{ℕ, _+_, _-_, _*_, _/_, _<_, _≤_}
 use native.Mathlib.Omega.{arith}
 use borrow.Author.Tests.{eqb-true, eqb-false, le-ltb, lt-leb, ne-eqb}
@@ -12,7 +12,7 @@ use Rattle.refusal.specs.Got.{Got, got, refused, after}
 use Rattle.refusal.proofs.Formats.{bounded}
 use Rattle.bits.specs.Bits.{odd, byteBits, bitList}
 use Rattle.bits.specs.Code.{codeFrom, code, bitValue, codeAnswer}
-use Rattle.bits.specs.Starts.{Short, Starts}
+use Rattle.bits.specs.Starts.{Short, Starts, Begins}
 use Rattle.bits.specs.Window.{ShortAt}
 use Rattle.bits.specs.declared.svq3.CodeAnswer.the-variants.{Code}
 use Rattle.bits.proofs.Table.{both-left, both-right, every, at}
@@ -81,16 +81,66 @@ byte-says w = record { short = λ rest. go rest .0; goes-on = λ h rest. go rest
     go : (rest : List Bool) → Says rest (beforeOf w) (headOf w) (byteBits w ++ rest)
     go rest = says rest (odd (w / 128)) (odd (w / 64)) (odd (w / 32)) (odd (w / 16)) (odd (w / 8)) (odd (w / 4)) (odd (w / 2)) (odd w)
 
--- two functions of the byte that pass this test compute it
-abbrev pub right : (ℕ → ℕ) → (ℕ → ℕ) → ℕ → Bool
-right f g w = eqb (f w) (beforeOf w) && eqb (g w) (headOf w)
+-- ---- by nine bits
+abbrev beforeNine : ℕ → ℕ
+beforeNine w = cond (eqb (beforeOf (w / 2)) 8) (cond (odd w) 8 10) (beforeOf (w / 2))
 
-pub computed : (f g : ℕ → ℕ) → T (every (right f g) 256) → (w : ℕ) → w < 256 → Starts w (f w) (g w)
+abbrev headNine : ℕ → ℕ
+headNine w = cond (eqb (beforeOf (w / 2)) 8) (cond (odd w) (headOf (w / 2)) (2 * headOf (w / 2))) (headOf (w / 2))
+
+twice : (n : ℕ) → 2 * n / 2 ≡ n
+twice n = omega arith
+
+nine-says : (w : ℕ) → Begins w (beforeNine w) (headNine w)
+unfolding codeFrom
+nine-says w = go (eqb (beforeOf (w / 2)) 8) refl (odd w) refl
+  where
+    from : Starts (w / 2) (beforeOf (w / 2)) (headOf (w / 2))
+    from = byte-says (w / 2)
+
+    found : Short (byteBits (w / 2) ++ []) (beforeOf (w / 2)) (headOf (w / 2))
+    found = from .short []
+
+    go : (t : Bool) → eqb (beforeOf (w / 2)) 8 ≡ t → (o : Bool) → odd w ≡ o → Begins w (cond t (cond o 8 10) (beforeOf (w / 2))) (cond t (cond o (headOf (w / 2)) (2 * headOf (w / 2))) (headOf (w / 2)))
+    go true e true f =
+        record {
+          within = omega arith;
+          some = found .some;
+          more = λ h. absurd (omega arith);
+          small = omega (arith, found .small);
+          ends = λ h rest. ap (λ b. code (byteBits (w / 2) ++ b ∷ rest)) f ∙ from .goes-on (eqb-true (beforeOf (w / 2)) 8 e) (true ∷ rest);
+          goes-on = λ h. absurd (omega arith);
+        }
+    go true e false f =
+        record {
+          within = omega arith;
+          some = omega (arith, found .some);
+          more = λ h. omega (arith, found .some);
+          small = omega (arith, found .small);
+          ends = λ h. absurd (omega arith);
+          goes-on = λ h rest. from .goes-on (eqb-true (beforeOf (w / 2)) 8 e) rest ∙ ap (λ (k : ℕ). after 8 (codeFrom 27 k rest)) (sym (twice (headOf (w / 2))));
+        }
+    go false e o f =
+        let l : beforeOf (w / 2) < 8 = omega (arith, found .within, eqb-false (beforeOf (w / 2)) 8 e) in
+        record {
+          within = omega arith;
+          some = found .some;
+          more = λ h. absurd (omega arith);
+          small = omega (arith, found .small);
+          ends = λ h rest. from .short (odd w ∷ rest) .ends l;
+          goes-on = λ h. absurd (omega arith);
+        }
+
+-- two functions of nine bits that pass this test compute it
+abbrev pub right : (ℕ → ℕ) → (ℕ → ℕ) → ℕ → Bool
+right f g w = eqb (f w) (beforeNine w) && eqb (g w) (headNine w)
+
+pub computed : (f g : ℕ → ℕ) → T (every (right f g) 512) → (w : ℕ) → w < 512 → Begins w (f w) (g w)
 computed f g t w h =
-    let a = at (right f g) 256 t w h in
-    let x = eqb→eq (f w) (beforeOf w) (both-left (eqb (f w) (beforeOf w)) (eqb (g w) (headOf w)) a) in
-    let y = eqb→eq (g w) (headOf w) (both-right (eqb (f w) (beforeOf w)) (eqb (g w) (headOf w)) a) in
-    rw (x, y) (byte-says w)
+    let a = at (right f g) 512 t w h in
+    let x = eqb→eq (f w) (beforeNine w) (both-left (eqb (f w) (beforeNine w)) (eqb (g w) (headNine w)) a) in
+    let y = eqb→eq (g w) (headNine w) (both-right (eqb (f w) (beforeNine w)) (eqb (g w) (headNine w)) a) in
+    rw (x, y) (nine-says w)
 
 -- ---- a short code by its size, half of it, and its last data bit
 module _ (s : List Bool) (n m size half last : ℕ) where
@@ -137,17 +187,17 @@ computed-short f g h t w l small bit rest =
     let v = or-else (leb 8 (beforeOf w)) (halved g h w) u (lt-leb 8 (beforeOf w) q) in
     (eqb→eq (2 * g w + h w) (headOf w) (both-left (eqb (2 * g w + h w) (headOf w)) (ltb 0 (g w)) v), ltb→lt 0 (g w) (both-right (eqb (2 * g w + h w) (headOf w)) (ltb 0 (g w)) v)))
 
--- ---- bits that start with a byte
-module _ (bits : List Bool) (p w n m : ℕ) (begins : drop p bits ≡ byteBits w ++ drop (p + 8) bits) (says : Starts w n m) where
-  pub at-place : Short (drop p bits) n m
-  at-place = rw begins (says .short (drop (p + 8) bits))
+-- ---- bits that start with these nine
+module _ (bits : List Bool) (p w n m : ℕ) (begins : drop p bits ≡ byteBits (w / 2) ++ drop (p + 8) bits) (says : Begins w n m) where
+  -- a code that was found is the answer
+  pub at-once : drop (p + 8) bits ≡ odd w ∷ drop (p + 9) bits → n < 10 → Code (m - 1) (p + n + 1) ≡ codeAnswer p (code (drop p bits))
+  at-once ninth h =
+      let e = begins ∙ ap (λ (t : List Bool). byteBits (w / 2) ++ t) ninth in
+      let r : p + n + 1 ≡ p + (n + 1) = omega arith in
+      ap (Code (m - 1)) r ∙ sym (ap (codeAnswer p) (ap code e ∙ says .ends h (drop (p + 9) bits)))
 
-  pub later : n ≡ 8 → codeAnswer (p + 8) (codeFrom 27 m (drop (p + 8) bits)) ≡ codeAnswer p (code (drop p bits))
-  later h = sym (ap (λ s. codeAnswer p (code s)) begins ∙ ap (codeAnswer p) (says .goes-on h (drop (p + 8) bits)) ∙ moved p 8 (p + 8) (codeFrom 27 m (drop (p + 8) bits)) refl)
-
--- ---- a short code that was found is the answer
-pub at-once : (s : List Bool) (p n m : ℕ) → Short s n m → n < 8 → Code (m - 1) (p + n + 1) ≡ codeAnswer p (code s)
-at-once s p n m found h = rw (found .ends h) (ap (Code (m - 1)) (omega arith))
+  pub later : n ≡ 10 → codeAnswer (p + 8) (codeFrom 27 (m / 2) (drop (p + 8) bits)) ≡ codeAnswer p (code (drop p bits))
+  later h = sym (ap (λ s. codeAnswer p (code s)) begins ∙ ap (codeAnswer p) (says .goes-on h (drop (p + 8) bits)) ∙ moved p 8 (p + 8) (codeFrom 27 (m / 2) (drop (p + 8) bits)) refl)
 
 -- and its bits are there
 pub inside : (s : List ℕ) (p size half last : ℕ) → ShortAt (drop p (bitList s)) size half last → size < 9 → p + size ≤ 8 * length s

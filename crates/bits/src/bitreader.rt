@@ -1,10 +1,10 @@
 // A bit of a slice of bytes, and question 7.
 ghost use mathlib.Core.Path.{_≡_};
 ghost use mathlib.Core.Bool.{false};
-ghost use mathlib.Core.List.{_++_};
+ghost use mathlib.Core.List.{_∷_, _++_};
 ghost use Prim.Native.Nat.{_+_, _<_, _/_};
 ghost use lib.ListN.{length, getD, drop};
-ghost use Rattle.bits.specs.Bits.{byteBits, bitList, placeIn};
+ghost use Rattle.bits.specs.Bits.{odd, byteBits, bitList, placeIn};
 
 // The bit at a place, highest first in each byte.
 pub fn bit_at(bits: &[u8], at: usize) -> bool
@@ -22,14 +22,14 @@ fn wide(x: u8) -> u32
     x as u32
 }
 
-// The eight bits from a place on, as a byte.
-pub fn byte_at(bits: &[u8], at: usize) -> u32
+// The nine bits from a place on, as a number.
+pub fn nine_at(bits: &[u8], at: usize) -> u32
     requires { ⌜ at / 8 + 1 < length (now bits) ⌝ }
-    ensures { λ r. ⌜ (r < 256) × (drop at (bitList (now (bits .entry))) ≡ byteBits r ++ drop (at + 8) (bitList (now (bits .entry)))) ⌝ }
+    ensures { λ r. ⌜ (r < 512) × (drop at (bitList (now (bits .entry))) ≡ byteBits (r / 2) ++ drop (at + 8) (bitList (now (bits .entry)))) × (drop (at + 8) (bitList (now (bits .entry))) ≡ odd r ∷ drop (at + 9) (bitList (now (bits .entry)))) ⌝ }
 {
     let i = at / 8;
     let two = 256 * wide(bits[i]) + wide(bits[i + 1]);
-    ((two << (at % 8)) >> 8) % 256
+    ((two << (at % 8)) >> 7) % 512
 }
 
 // Question 7. By a division: eight times the length may not fit.

@@ -5,7 +5,7 @@ ghost use lib.ListN.{length, drop};
 ghost use Rattle.bits.specs.Bits.{bitList};
 ghost use Rattle.bits.specs.Code.{codeFrom, code, codeAnswer};
 use crate::bitreader::bit_at;
-use crate::bitreader::byte_at;
+use crate::bitreader::nine_at;
 use crate::code_starts::code_start;
 use refusal::Refusal;
 
@@ -51,7 +51,7 @@ fn read_on(bits: &[u8], at: usize, head: u32, spare: u32) -> CodeAnswer
     }
 }
 
-// A code of at most seven bits is found in the eight bits at its place, a longer one is read from the ninth bit on.
+// A code of at most nine bits is found in the nine bits at its place, a longer one is read from the ninth on.
 pub fn read_universal_code(bits: &[u8], at: usize) -> CodeAnswer
     requires { ⌜ length (now bits) < 2 ^ 61 ⌝ }
     ensures { λ r. ⌜ r ≡ codeAnswer at (code (drop at (bitList (now (bits .entry))))) ⌝ }
@@ -59,11 +59,11 @@ pub fn read_universal_code(bits: &[u8], at: usize) -> CodeAnswer
     if bits.len() <= at / 8 + 1 {
         return read_on(bits, at, 1, 31);
     }
-    let start = code_start(byte_at(bits, at));
+    let start = code_start(nine_at(bits, at));
     let before = start.before;
     let head = start.head;
-    if before == 8 {
-        return read_on(bits, at + 8, head, 27);
+    if before == 10 {
+        return read_on(bits, at + 8, head / 2, 27);
     }
     CodeAnswer::Code(head - 1, at + before as usize + 1)
 }

@@ -1,12 +1,12 @@
--- `bits::bitreader::byte_at` answers the eight bits at its place: they are cut out of two bytes.
+-- `bits::bitreader::nine_at` answers the nine bits at its place: they are cut out of two bytes.
 use mathlib.Core.Path.{_≡_, subst, sym, _∙_}
 use Prim.Native.Nat.{ℕ, _+_, _*_, _/_, _%_, _^_, _<_}
 use native.Mathlib.Omega.{arith}
 use borrow.Author.Needs.{needs}
 use lib.ListN.{getD}
-use Rattle.bits.proofs.BitAt.{shifted, byte-at}
-use Rattle.bits.proofs.bitreader.byte_at.Statement.{statement}
-use Rattle.bits.proofs.bitreader.byte_at.Tie as tie
+use Rattle.bits.proofs.BitAt.{shifted, nine-at}
+use Rattle.bits.proofs.bitreader.nine_at.Statement.{statement}
+use Rattle.bits.proofs.bitreader.nine_at.Tie as tie
 
 mul-two : tie.Need-mul-two
 mul-two c = omega (arith, c .before .shared-slice-known2 .given (c .before .before .before .args .at / 8))
@@ -23,10 +23,10 @@ returns c =
     let p = a .at in
     let x : getD s (p / 8) 0 < 256 = omega (arith, c .before .shared-slice-known3 .given (p / 8)) in
     let y : getD s (p / 8 + 1) 0 < 256 = omega (arith, c .before .shared-slice-known3 .given (p / 8 + 1)) in
-    rw (c .before .before .wide .ensures, c .wide2 .ensures, shifted (getD s (p / 8) 0) (getD s (p / 8 + 1) 0) (p % 8) x y (omega arith)) (omega arith, byte-at s p (omega arith) y)
+    rw (c .before .before .wide .ensures, c .wide2 .ensures, shifted (getD s (p / 8) 0) (getD s (p / 8 + 1) 0) (p % 8) x y (omega arith)) (let b = nine-at s p (omega arith) y in (omega arith, b .0, b .1))
 
-pub byte-at-spec : {M : Type 1} → statement M
-byte-at-spec =
+pub nine-at-spec : {M : Type 1} → statement M
+nine-at-spec =
     tie.close
     (tie.spec
     (λ c. search needs)
