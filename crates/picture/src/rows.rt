@@ -3,7 +3,7 @@ ghost use mathlib.Core.Path.{_≡_};
 ghost use Prim.Native.Nat.{_+_, _*_, _≤_};
 ghost use lib.ListN.{length, replicate};
 ghost use Rattle.picture.specs.Painted.{Inside};
-ghost use Rattle.picture.specs.Picture.{stored, copied, always, filled};
+ghost use Rattle.picture.specs.Picture.{stored, copied};
 ghost use Rattle.picture.specs.Rows.{row, run};
 
 // n samples of `block` from `from` on, as the first of sixteen.
@@ -74,45 +74,5 @@ pub fn copy_block(
         let at = (y + r) * stride + x;
         store_row(plane, at, other, at, w);
         r += 1;
-    }
-}
-
-// v at n places from `at` on.
-fn fill_row(cells: &mut [u8], at: usize, n: usize, v: u8)
-    requires { ⌜ at + n ≤ length (now cells) ⌝ }
-    ensures { λ _. ⌜ now (cells .exit) ≡ row (now (cells .entry)) at (always v 0) n ⌝ }
-{
-    let mut c = 0;
-    while c < n {
-        cells[at + c] = v;
-        c += 1;
-    }
-}
-
-// v at the w × h places from column x of row y on.
-fn fill_rows(cells: &mut [u8], stride: usize, x: usize, y: usize, w: usize, h: usize, v: u8)
-    requires { ⌜ Inside stride x y w h (length (now cells)) ⌝ }
-    ensures { λ _. ⌜ now (cells .exit) ≡ filled (now (cells .entry)) stride x y w h v ⌝ }
-{
-    let mut r = 0;
-    while r < h {
-        fill_row(cells, (y + r) * stride + x, w, v);
-        r += 1;
-    }
-}
-
-// The same, with the widths of partitions in cells known to the compiler.
-pub fn fill(cells: &mut [u8], stride: usize, x: usize, y: usize, w: usize, h: usize, v: u8)
-    requires { ⌜ Inside stride x y w h (length (now cells)) ⌝ }
-    ensures { λ _. ⌜ now (cells .exit) ≡ filled (now (cells .entry)) stride x y w h v ⌝ }
-{
-    if w == 4 {
-        fill_rows(cells, stride, x, y, 4, h, v);
-    } else if w == 2 {
-        fill_rows(cells, stride, x, y, 2, h, v);
-    } else if w == 1 {
-        fill_rows(cells, stride, x, y, 1, h, v);
-    } else {
-        fill_rows(cells, stride, x, y, w, h, v);
     }
 }
