@@ -18,7 +18,8 @@ use Rattle.questions.specs.declared.Call.{Call}
 use Rattle.record.specs.Record.{Record, skipRecord}
 use Rattle.reading.specs.Read.{cellX, cellY, cellsWide, cellsHigh, storedAt}
 use Rattle.reading.specs.Bits.{callOf}
-use Rattle.apply.specs.Apply.{vectorX, vectorY, storedUpTo, appliedField}
+use Rattle.moving.specs.Moved.{vectorX, vectorY}
+use Rattle.apply.specs.Apply.{storedUpTo, appliedField}
 
 -- where a partition lies, in cells
 pub record Cells (call : Call) (i x y w h : ℕ) : Type 0 where

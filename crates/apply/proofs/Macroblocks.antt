@@ -12,7 +12,9 @@ use Rattle.vectors.specs.Modes.{numMotionVectors}
 use Rattle.record.specs.Record.{Record, skipRecord}
 use Rattle.record.specs.Range.{RecordRange, CodedRange}
 use Rattle.reading.specs.Bits.{callOf}
-use Rattle.apply.specs.Apply.{movedUpTo, lumaUpTo, chromaAdded, appliedLuma, appliedChroma}
+use Rattle.moving.specs.Moved.{movedUpTo}
+use Rattle.adding.specs.Blocks.{lumaUpTo, chromaAdded}
+use Rattle.apply.specs.Apply.{appliedLuma, appliedChroma}
 
 module _ (cols rows : ℕ) (ref : List ℕ) (r : Record) (pic : List ℕ) where
   pub skip-luma : r .head .mode ≡ 0 → appliedLuma cols rows ref r pic ≡ copied pic (16 * cols) (16 * r .head .column) (16 * r .head .row) 16 16 ref

@@ -6,7 +6,7 @@ use lib.Dec.{lit<, lit≤}
 use borrow.Author.Needs.{needs}
 use Rattle.picture.proofs.Laws.{plane-inside}
 use Rattle.record.specs.Record.{recordOf}
-use Rattle.apply.specs.Apply.{chromaAdded}
+use Rattle.adding.specs.Blocks.{chromaAdded}
 use Rattle.apply.proofs.Macroblocks.{skip-chroma, coded-chroma, place-within, coded-range}
 use Rattle.apply.proofs.applied.apply_chroma.Statement.{statement}
 use Rattle.apply.proofs.applied.apply_chroma.Tie as tie

@@ -6,7 +6,7 @@ use lib.Dec.{lit<, lit≤}
 use borrow.Author.Needs.{needs}
 use Rattle.picture.proofs.Laws.{plane-inside}
 use Rattle.record.specs.Record.{recordOf}
-use Rattle.apply.specs.Apply.{lumaUpTo}
+use Rattle.adding.specs.Blocks.{lumaUpTo}
 use Rattle.apply.proofs.Macroblocks.{skip-luma, coded-luma, place-within, coded-range}
 use Rattle.apply.proofs.applied.apply_luma.Statement.{statement}
 use Rattle.apply.proofs.applied.apply_luma.Tie as tie

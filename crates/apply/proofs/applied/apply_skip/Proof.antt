@@ -2,7 +2,6 @@
 use mathlib.Core.Path.{sym, ap, _∙_}
 use Prim.Native.Nat.{ℕ, _*_}
 use native.Mathlib.Omega.{arith}
-use borrow.Author.Needs.{needs}
 use Rattle.predict.proofs.Following.{macroblock-cells}
 use Rattle.apply.proofs.Macroblocks.{skipped-luma, skipped-chroma}
 use Rattle.apply.proofs.Fields.{skipped-mv, skipped-marks}
@@ -35,4 +34,14 @@ returns c =
     )
 
 pub apply-skip-spec : {M : Type 1} → statement M
-apply-skip-spec = tie.close (tie.spec copy-macroblock-from-requires mark-macroblock-requires (λ c. search needs) (λ c. search needs) (λ c. search needs) (λ c. search needs) (λ c. search needs) returns)
+apply-skip-spec =
+    tie.close
+    (tie.spec
+    copy-macroblock-from-requires
+    mark-macroblock-requires
+    (λ c. c .before .before .before .before .before .before .before .before .before .before .before .before .copy-macroblock-from .kept .0)
+    (λ c. c .before .before .before .before .before .before .before .before .before .before .before .before .copy-macroblock-from .kept .1 .0)
+    (λ c. c .before .before .before .before .before .before .before .before .before .before .before .before .copy-macroblock-from .kept .1 .1 .0)
+    (λ c. c .before .before .before .mark-macroblock .kept .0)
+    (λ c. c .before .before .before .mark-macroblock .kept .1 .0)
+    returns)

@@ -15,6 +15,9 @@ mark-macroblock-requires c κs =
     let s = c .before .before .before .before in
     (s .pre .0 .0 .wide, omega (arith, s .pre .1 .0, s .pre .1 .1), macroblock-cells (s .pre .0 .0) (s .pre .1 .1))
 
+store-partitions-requires : tie.Need-store-partitions-requires
+store-partitions-requires c κs = c .before .before .before .before .pre
+
 returns : tie.Need-returns
 unfolding storedField
 returns c =
@@ -39,10 +42,10 @@ apply-field-spec =
     (λ c. search needs)
     (λ c. search needs)
     mark-macroblock-requires
-    (λ c κs. search needs)
-    (λ c. search needs)
-    (λ c. search needs)
+    store-partitions-requires
+    (λ c. c .before .before .before .mark-macroblock .kept .0)
+    (λ c. c .before .before .before .mark-macroblock .kept .1 .0)
     returns
-    (λ c. search needs)
-    (λ c. search needs)
+    (λ c. c .before .before .before .store-partitions .kept .0)
+    (λ c. c .before .before .before .store-partitions .kept .1 .0)
     returns-2)

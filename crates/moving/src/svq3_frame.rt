@@ -1,0 +1,166 @@
+// Compensation of each partition of a macroblock, in one plane.
+ghost use mathlib.Core.Path.{_≡_};
+ghost use mathlib.Core.Bool.{true, false};
+ghost use Prim.Native.Nat.{_+_, _*_, _/_, _<_, _≤_};
+ghost use lib.IntN.{pos};
+ghost use lib.ListN.{length};
+ghost use Rattle.ints.specs.Z.{towardZero};
+ghost use Rattle.picture.specs.Picture.{Within};
+ghost use Rattle.compensation.specs.Block.{Span};
+ghost use Rattle.compensation.specs.Taps.{Placed, TapsIn};
+ghost use Rattle.vectors.specs.Modes.{partitionWidth, partitionHeight, numMotionVectors};
+ghost use Rattle.moving.specs.Moved.{unit, planeLength, partX, partY, vectorX, vectorY, movedOnce, movedUpTo};
+use compensation::svq3_mc::Taps;
+use compensation::svq3_mc::compensate_taps;
+use compensation::svq3_mc::taps_of;
+use ints::half_toward_zero;
+use questions::Call;
+use vectors::svq3_mb::num_motion_vectors;
+use vectors::svq3_mb::partition_height;
+use vectors::svq3_mb::partition_offset_x;
+use vectors::svq3_mb::partition_offset_y;
+use vectors::svq3_mb::partition_width;
+
+// A number of a plane: chroma has half as many samples each way.
+fn over(chroma: bool, v: usize) -> usize
+    ensures { λ r. ⌜ r ≡ v / unit chroma ⌝ }
+{
+    if chroma { v / 2 } else { v }
+}
+
+// A vector as a plane has it: chroma halves it toward zero.
+fn vector_over(chroma: bool, v: i32) -> i32
+    ensures { λ r. ⌜ r ≡ towardZero v (unit chroma) ⌝ }
+{
+    if chroma { half_toward_zero(v) } else { v }
+}
+
+// Where a partition lies in a plane, in its samples, and how large it is.
+struct Part {
+    x: usize,
+    y: usize,
+    w: usize,
+    h: usize,
+}
+
+fn part_of(call: Call, chroma: bool, i: usize) -> Part
+    requires { ⌜ (call .mode ≤ 7) × (i < numMotionVectors (call .mode)) ⌝ }
+    ensures { λ r. ⌜ (r .x ≡ partX (unit chroma) call i) × (r .y ≡ partY (unit chroma) call i) ⌝ }
+    ensures { λ r. ⌜ (r .w ≡ partitionWidth (call .mode) / unit chroma) × (r .h ≡ partitionHeight (call .mode) / unit chroma) ⌝ }
+{
+    let mode = call.mode;
+    let column = call.column as usize;
+    let row = call.row as usize;
+    Part {
+        x: over(chroma, 16 * column + partition_offset_x(mode, i)),
+        y: over(chroma, 16 * row + partition_offset_y(mode, i)),
+        w: over(chroma, partition_width(mode)),
+        h: over(chroma, partition_height(mode)),
+    }
+}
+
+// How partition i, which is p, reads its taps in a plane.
+fn taps_in(vectors: &[i32], cols: usize, rows: usize, chroma: bool, p: Part, i: usize) -> Taps
+    requires { ⌜ (0 < cols) × (cols ≤ 4096) × (0 < rows) × (rows ≤ 4096) × (i < 16) × (length (now vectors) ≡ 32) ⌝ }
+    requires { ⌜ Span (p .w) (p .h) × (p .x < 131072) × (p .y < 131072) ⌝ }
+    ensures { λ r. ⌜ Placed (16 / unit chroma * cols) (16 / unit chroma * rows) (pos (p .x)) (pos (p .y)) (towardZero (vectorX (now (vectors .entry)) i) (unit chroma)) (towardZero (vectorY (now (vectors .entry)) i) (unit chroma)) (r .bx) (r .by) (r .px) (r .py) ⌝ }
+    ensures { λ r. ⌜ TapsIn (16 / unit chroma * cols) (16 / unit chroma * rows) (p .w) (p .h) r ⌝ }
+{
+    let side = over(chroma, 16);
+    let width = side * cols;
+    let height = side * rows;
+    let vx = vector_over(chroma, vectors[2 * i]);
+    let vy = vector_over(chroma, vectors[2 * i + 1]);
+    taps_of(p.w, p.h, width, height, p.x as i32, p.y as i32, vx, vy)
+}
+
+// Partition i of a macroblock's luma.
+fn compensate_partition(
+    pic: &mut [u8],
+    reference: &[u8],
+    vectors: &[i32],
+    cols: usize,
+    rows: usize,
+    call: Call,
+    i: usize,
+)
+    requires { ⌜ Within cols rows (call .column) (call .row) × (call .mode ≤ 7) × (i < numMotionVectors (call .mode)) ⌝ }
+    requires { ⌜ (length (now pic) ≡ planeLength (unit false) cols rows) × (length (now reference) ≡ planeLength (unit false) cols rows) × (length (now vectors) ≡ 32) ⌝ }
+    ensures { λ _. ⌜ now (pic .exit) ≡ movedOnce (unit false) cols rows (now (reference .entry)) call (now (vectors .entry)) i (now (pic .entry)) ⌝ }
+{
+    let width = 16 * cols;
+    let height = 16 * rows;
+    let p = part_of(call, false, i);
+    let t = taps_in(vectors, cols, rows, false, p, i);
+    compensate_taps(pic, reference, width, p.x, p.y, p.w, p.h, width, height, t);
+}
+
+// All partitions of a macroblock's luma.
+pub fn compensate_luma(
+    pic: &mut [u8],
+    reference: &[u8],
+    vectors: &[i32],
+    cols: usize,
+    rows: usize,
+    call: Call,
+)
+    requires { ⌜ Within cols rows (call .column) (call .row) × (call .mode ≤ 7) ⌝ }
+    requires { ⌜ (length (now pic) ≡ planeLength (unit false) cols rows) × (length (now reference) ≡ planeLength (unit false) cols rows) × (length (now vectors) ≡ 32) ⌝ }
+    ensures { λ _. ⌜ now (pic .exit) ≡ movedUpTo (numMotionVectors (call .mode)) (unit false) cols rows (now (reference .entry)) call (now (vectors .entry)) (now (pic .entry)) ⌝ }
+{
+    let n = num_motion_vectors(call.mode);
+    let mut i = 0;
+    while i < n {
+        compensate_partition(pic, reference, vectors, cols, rows, call, i);
+        i += 1;
+    }
+}
+
+// Partition i of both chroma planes: they read the same taps.
+fn compensate_pair(
+    cb: &mut [u8],
+    cr: &mut [u8],
+    rcb: &[u8],
+    rcr: &[u8],
+    vectors: &[i32],
+    cols: usize,
+    rows: usize,
+    call: Call,
+    i: usize,
+)
+    requires { ⌜ Within cols rows (call .column) (call .row) × (call .mode ≤ 7) × (i < numMotionVectors (call .mode)) ⌝ }
+    requires { ⌜ (length (now cb) ≡ planeLength (unit true) cols rows) × (length (now rcb) ≡ planeLength (unit true) cols rows) × (length (now cr) ≡ planeLength (unit true) cols rows) × (length (now rcr) ≡ planeLength (unit true) cols rows) × (length (now vectors) ≡ 32) ⌝ }
+    ensures { λ _. ⌜ now (cb .exit) ≡ movedOnce (unit true) cols rows (now (rcb .entry)) call (now (vectors .entry)) i (now (cb .entry)) ⌝ }
+    ensures { λ _. ⌜ now (cr .exit) ≡ movedOnce (unit true) cols rows (now (rcr .entry)) call (now (vectors .entry)) i (now (cr .entry)) ⌝ }
+{
+    let width = 8 * cols;
+    let height = 8 * rows;
+    let p = part_of(call, true, i);
+    let t = taps_in(vectors, cols, rows, true, p, i);
+    compensate_taps(cb, rcb, width, p.x, p.y, p.w, p.h, width, height, t);
+    compensate_taps(cr, rcr, width, p.x, p.y, p.w, p.h, width, height, t);
+}
+
+// All partitions of both chroma planes.
+pub fn compensate_chroma(
+    cb: &mut [u8],
+    cr: &mut [u8],
+    rcb: &[u8],
+    rcr: &[u8],
+    vectors: &[i32],
+    cols: usize,
+    rows: usize,
+    call: Call,
+)
+    requires { ⌜ Within cols rows (call .column) (call .row) × (call .mode ≤ 7) ⌝ }
+    requires { ⌜ (length (now cb) ≡ planeLength (unit true) cols rows) × (length (now rcb) ≡ planeLength (unit true) cols rows) × (length (now cr) ≡ planeLength (unit true) cols rows) × (length (now rcr) ≡ planeLength (unit true) cols rows) × (length (now vectors) ≡ 32) ⌝ }
+    ensures { λ _. ⌜ now (cb .exit) ≡ movedUpTo (numMotionVectors (call .mode)) (unit true) cols rows (now (rcb .entry)) call (now (vectors .entry)) (now (cb .entry)) ⌝ }
+    ensures { λ _. ⌜ now (cr .exit) ≡ movedUpTo (numMotionVectors (call .mode)) (unit true) cols rows (now (rcr .entry)) call (now (vectors .entry)) (now (cr .entry)) ⌝ }
+{
+    let n = num_motion_vectors(call.mode);
+    let mut k = 0;
+    while k < n {
+        compensate_pair(cb, cr, rcb, rcr, vectors, cols, rows, call, k);
+        k += 1;
+    }
+}
