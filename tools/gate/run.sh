@@ -19,7 +19,8 @@ cd "$root"
 # A pipeline's status is tee's: rt's own goes through a file.
 {
     status=0
-    rt ci || status=$?
+    # rt starts its checks in batches and waits for the last of each: more of them than processors leaves none idle.
+    RT_JOBS=${RT_JOBS:-4} rt ci || status=$?
     echo "$status" > "$kept/status"
 } | tee "$kept/printed"
 status=$(cat "$kept/status")
