@@ -4,10 +4,10 @@ ghost use mathlib.Core.Bool.{true};
 ghost use Rattle.questions.specs.Questions.{gridRight};
 ghost use Rattle.checking.specs.Records.{records};
 ghost use Rattle.checking.specs.Check.{checkAnswer, checked};
+use passing::pass::PassAnswer;
+use passing::pass::pass_record;
 use questions::grid_right;
 use refusal::Refusal;
-use transcript::pass::PassAnswer;
-use transcript::pass::pass_record;
 
 pub enum CheckAnswer {
     // the number of records

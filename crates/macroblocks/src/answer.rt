@@ -10,9 +10,9 @@ use cases::slices::put_bytes;
 use cases::slices::put_pattern;
 use cases::start::put_block;
 use outcome::MbAnswer;
+use parsing::parse::ParseAnswer;
+use parsing::parse::parse_record;
 use refusal::Refusal;
-use transcript::parse::ParseAnswer;
-use transcript::parse::parse_record;
 
 fn refused(why: Refusal, head: &[u8; 80]) -> bool {
     let number = refusal::number_of(why);

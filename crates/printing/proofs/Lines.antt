@@ -16,10 +16,11 @@ use Rattle.record.specs.Parse.{parseRecord}
 use Rattle.record.specs.declared.Head.{Head}
 use Rattle.record.proofs.Records.{record-format}
 use Rattle.record.proofs.Lengths.{record-some}
-use Rattle.transcript.specs.Answers.{Parsing, Written}
-use Rattle.transcript.specs.declared.parse.ParseAnswer.{ParseAnswer}
-use Rattle.transcript.specs.declared.parse.ParseAnswer.the-variants.{Parsed, Refused}
-use Rattle.transcript.proofs.Answers.{ParsedBy, parsed, parse-refused}
+use Rattle.transcript.specs.Answers.{Written}
+use Rattle.parsing.specs.Answers.{Parsing}
+use Rattle.parsing.specs.declared.parse.ParseAnswer.{ParseAnswer}
+use Rattle.parsing.specs.declared.parse.ParseAnswer.the-variants.{Parsed, Refused}
+use Rattle.parsing.proofs.Answers.{ParsedBy, parsed, parse-refused}
 use Rattle.transcript.proofs.Writing.{Still, still-all, still-more, still-fits, still-none}
 use Rattle.checking.specs.Records.{records}
 use Rattle.checking.proofs.Laws.{records-none, records-first, records-next}

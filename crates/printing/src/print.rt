@@ -20,11 +20,11 @@ use header::read_list;
 use lines::text::put_bits;
 use lines::text::put_hex_line;
 use lines::text::put_refused;
+use parsing::parse::ParseAnswer;
+use parsing::parse::parse_record;
 use report::Report;
 use report::Stop;
 use run::run::run;
-use transcript::parse::ParseAnswer;
-use transcript::parse::parse_record;
 
 // The records of a transcript, each on a line.
 fn put_records(out: &mut [u8], transcript: &[u8], at: usize, cols: u32, rows: u32) -> usize

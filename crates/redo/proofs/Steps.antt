@@ -15,12 +15,12 @@ use Rattle.record.specs.Parse.{parseMotion, parseRecord}
 use Rattle.record.specs.Range.{RecordRange}
 use Rattle.record.specs.declared.Head.{Head}
 use Rattle.record.proofs.Records.{record-format}
-use Rattle.transcript.specs.Answers.{placeAnswer, Parsing}
-use Rattle.transcript.specs.Place.{parsePlace}
-use Rattle.transcript.specs.declared.parse.ParseAnswer.{ParseAnswer}
-use Rattle.transcript.specs.declared.parse.ParseAnswer.the-variants.{Parsed, Refused}
-use Rattle.transcript.proofs.Answers.{parsed, parse-refused}
-use Rattle.transcript.proofs.Places.{PlaceRange, placed-range, not-parsed, skip-is, skip-parsed, coded-parsed}
+use Rattle.parsing.specs.Answers.{placeAnswer, Parsing}
+use Rattle.parsing.specs.Place.{parsePlace}
+use Rattle.parsing.specs.declared.parse.ParseAnswer.{ParseAnswer}
+use Rattle.parsing.specs.declared.parse.ParseAnswer.the-variants.{Parsed, Refused}
+use Rattle.parsing.proofs.Answers.{parsed, parse-refused}
+use Rattle.parsing.proofs.Places.{PlaceRange, placed-range, not-parsed, skip-is, skip-parsed, coded-parsed}
 use Rattle.apply.specs.Apply.{appliedLuma, appliedChroma, appliedField}
 use Rattle.outcome.specs.State.{State, fieldOf}
 use Rattle.outcome.specs.Decode.{applied, quantiserAfter}

@@ -4,18 +4,18 @@ ghost use Prim.Native.Nat.{_*_, _≤_};
 ghost use lib.ListN.{length, drop};
 ghost use Rattle.picture.specs.Picture.{Sized, cellCount};
 ghost use Rattle.record.specs.Parse.{parseRecord};
-ghost use Rattle.transcript.specs.Answers.{placeAnswer};
-ghost use Rattle.transcript.specs.Place.{parsePlace};
+ghost use Rattle.parsing.specs.Answers.{placeAnswer};
+ghost use Rattle.parsing.specs.Place.{parsePlace};
 ghost use Rattle.outcome.specs.Entry.{stateOf};
 ghost use Rattle.redo.specs.Stepped.{Stepped};
 use apply::applied::apply_record;
 use apply::applied::apply_skip;
 use outcome::Frame;
 use outcome::quantiser_after;
+use parsing::parse::ParseAnswer;
+use parsing::parse::parse_motion;
+use parsing::parse::parse_place;
 use record::Head;
-use transcript::parse::ParseAnswer;
-use transcript::parse::parse_motion;
-use transcript::parse::parse_place;
 
 // The quantiser after a record, and the place behind it.
 pub struct Step {

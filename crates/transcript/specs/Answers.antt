@@ -1,40 +1,12 @@
--- What the functions of a transcript answer and leave.
+-- What is left where bytes are written.
 -- Assumes nothing.
 use mathlib.Core.Path.{_≡_}
 use mathlib.Core.List.{List}
 use Prim.Native.Nat.{ℕ, _+_}
-use lib.IntN.{ℤ}
 use lib.ListN.{length}
 use lib.Seq.{sets}
-use Rattle.refusal.specs.Got.{Got, got, refused}
-use Rattle.record.specs.Record.{Record}
-use Rattle.record.specs.declared.Head.{Head}
-use Rattle.transcript.specs.declared.parse.ParseAnswer.{ParseAnswer}
-use Rattle.transcript.specs.declared.parse.ParseAnswer.the-variants.{Parsed, Refused}
-use Rattle.transcript.specs.declared.pass.PassAnswer.{PassAnswer}
-use Rattle.transcript.specs.declared.pass.PassAnswer.the-variants as pass
 
 -- bytes written to `out` from a place on: the place after them, and what `out` holds then
 pub record Written (out : List ℕ) (at : ℕ) (bytes : List ℕ) (next : ℕ) (left : List ℕ) : Type 0 where
   pub moved : next ≡ at + length bytes
   pub leaves : left ≡ sets out at bytes
-
--- the answer of a reader of a record that started at a place
-abbrev pub parseAnswer : ℕ → Got Record → ParseAnswer
-parseAnswer at (got r n) = Parsed (r .head) (at + n)
-parseAnswer at (refused r) = Refused r
-
--- the same of one that stops behind the mode
-abbrev pub placeAnswer : ℕ → Got Head → ParseAnswer
-placeAnswer at (got h n) = Parsed h (at + n)
-placeAnswer at (refused r) = Refused r
-
--- the same of one that stores nothing
-abbrev pub passAnswer : {X : Type 0} → ℕ → Got X → PassAnswer
-passAnswer at (got x n) = pass.Passed (at + n)
-passAnswer at (refused r) = pass.Refused r
-
--- the answer of a reader of a record, and the vectors and levels that it leaves, which are the record's where it has one
-pub record Parsing (at : ℕ) (read : Got Record) (answer : ParseAnswer) (vectors levels : List ℤ) : Type 0 where
-  pub answers : answer ≡ parseAnswer at read
-  pub leaves : (r : Record) (n : ℕ) → read ≡ got r n → (vectors ≡ r .vectors) × (levels ≡ r .levels)

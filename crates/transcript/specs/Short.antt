@@ -4,10 +4,10 @@ use mathlib.Core.Path.{_≡_}
 use mathlib.Core.Bool.{Bool, true, _&&_}
 use mathlib.Core.List.{List}
 use Prim.Native.Nat.{ℕ, zero, suc, _+_, _<_}
-use lib.Dec.{leb, ltb}
+use lib.Dec.{ltb}
 use lib.IntN.{ℤ, pos}
 use lib.ListN.{length, getD}
-use Rattle.number.specs.SignedNumber.{sent, received}
+use Rattle.number.specs.SignedNumber.{sent}
 
 -- each of n numbers from `at` on is below 128
 unfoldable pub allShort : List ℕ → ℕ → ℕ → Bool
@@ -18,12 +18,3 @@ allShort l at (suc n) = allShort l at n && ltb (getD l (at + n) 0) 128
 pub record Sent (l : List ℤ) (first n : ℕ) (t : List ℕ) : Type 0 where
   pub size : length t ≡ 16
   pub each : (k : ℕ) → k < n → getD t k 0 ≡ sent (getD l (first + k) (pos 0))
-
--- there are n numbers from `at` on, each below 128
-unfoldable pub shortAt : List ℕ → ℕ → ℕ → Bool
-shortAt l at n = leb (at + n) (length l) && allShort l at n
-
--- t has what n bytes from `at` on stand for, each by itself
-pub record Received (l : List ℕ) (at n : ℕ) (t : List ℤ) : Type 0 where
-  pub size : length t ≡ 16
-  pub each : (k : ℕ) → k < n → getD t k (pos 0) ≡ received (getD l (at + k) 0)

@@ -1,4 +1,2 @@
-// Records as a transcript has them: written to bytes and read back.
-pub mod parse;
-pub mod pass;
+// Records as a transcript has them, written to bytes.
 pub mod write;

@@ -7,7 +7,7 @@ use Rattle.refusal.specs.Got.{got}
 use Rattle.lists.proofs.Laws.{Counting, counting, count-end, count-stop, count-on}
 use Rattle.record.specs.Record.{Record}
 use Rattle.record.specs.Parse.{parseRecord}
-use Rattle.transcript.proofs.Passes.{passed, not-passed}
+use Rattle.passing.proofs.Passes.{passed, not-passed}
 use Rattle.checking.specs.Records.{records}
 use Rattle.checking.specs.Check.{checkAnswer}
 use Rattle.checking.specs.declared.CheckAnswer.the-variants.{Records, Refused}

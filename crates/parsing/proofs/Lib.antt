@@ -1,0 +1,6 @@
+pub mod Reading
+pub mod Parsings
+pub mod Answers
+pub mod Short
+pub mod Answering
+pub mod Places

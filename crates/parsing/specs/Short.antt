@@ -1,0 +1,20 @@
+-- Bytes that are a number each: contracts of inner functions.
+-- Assumes nothing.
+use mathlib.Core.Path.{_≡_}
+use mathlib.Core.Bool.{Bool, _&&_}
+use mathlib.Core.List.{List}
+use Prim.Native.Nat.{ℕ, _+_, _<_}
+use lib.Dec.{leb}
+use lib.IntN.{ℤ, pos}
+use lib.ListN.{length, getD}
+use Rattle.number.specs.SignedNumber.{received}
+use Rattle.transcript.specs.Short.{allShort}
+
+-- there are n numbers from `at` on, each below 128
+unfoldable pub shortAt : List ℕ → ℕ → ℕ → Bool
+shortAt l at n = leb (at + n) (length l) && allShort l at n
+
+-- t has what n bytes from `at` on stand for, each by itself
+pub record Received (l : List ℕ) (at n : ℕ) (t : List ℤ) : Type 0 where
+  pub size : length t ≡ 16
+  pub each : (k : ℕ) → k < n → getD t k (pos 0) ≡ received (getD l (at + k) 0)

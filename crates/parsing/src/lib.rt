@@ -1,0 +1,2 @@
+// Records of a transcript, read back from its bytes.
+pub mod parse;

@@ -1,0 +1,2 @@
+// Records of a transcript, passed over.
+pub mod pass;
