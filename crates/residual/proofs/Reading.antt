@@ -7,8 +7,8 @@ use Prim.Native.Nat.{ℕ, zero, suc, _+_, _-_, _≤_, _<_}
 use native.Mathlib.Nat.{add-zero}
 use native.Mathlib.Omega.{arith}
 use lib.IntN.{ℤ, pos}
-use lib.ListN.{length, getD, take, drop, set, length-append, length-replicate, length-set, replicate-append-replicate}
-use lib.Seq.{append-snoc, drop-drop, take-set-lt, set-at, sets}
+use lib.ListN.{length, getD, take, drop, set, length-append, length-drop, length-replicate, replicate-append-replicate}
+use lib.Seq.{append-snoc, drop-drop, set-at, sets, length-sets, length-take-le}
 use Rattle.refusal.specs.Got.{Got, got, refused, after, mapGot}
 use Rattle.refusal.specs.declared.Refusal.{Refusal}
 use Rattle.refusal.specs.declared.Refusal.the-variants.{LevelPosition}
@@ -26,7 +26,8 @@ use Rattle.residual.specs.declared.svq3_coeff.Step.the-variants as step
 use Rattle.residual.specs.declared.svq3_coeff.ListAnswer.the-variants.{End, Refused}
 use Rattle.residual.proofs.Gots.{after-zero, after-after, map-after, map-map}
 use Rattle.residual.proofs.Froms.{from-refused, from-end, from-past, from-level}
-use Rattle.residual.proofs.Rasters.{position-back, raster-set}
+use Rattle.residual.proofs.Rasters.{length-raster, position-back, raster-set}
+use Rattle.residual.proofs.Stores.{set-within, sets-over, restored, stored-first}
 use Rattle.residual.proofs.Steps.{level-run-format}
 
 -- ---- what the answer of a step says
@@ -46,8 +47,32 @@ refused-told p (got said.End n) x e = absurd (let z : _≡_ {A = ℕ} 0 1 = cc i
 refused-told p (got (Pair a b) n) x e = absurd (let z : _≡_ {A = ℕ} 0 1 = cc in omega arith)
 
 -- ---- the state
--- `done` is what was read of the levels by position, and `held` the array: the same by raster place, with 0 behind
-pub record Reading (book : ResidualBook) (start at : ℕ) (s : List Bool) (position p : ℕ) (held : List ℤ) : Type 0 where
+-- the levels by raster place, where `done` is what was read of them by position, with 0 behind
+abbrev held : (book : ResidualBook) (done : List ℤ) (position : ℕ) → List ℤ
+held book done position = raster book (done ++ zeros (positions book - position))
+
+pub few : (book : ResidualBook) → positions book ≤ 16
+few NormalScan = omega arith
+few ChromaDc = omega arith
+
+-- what `entry` had in the room of a list is in `before`, and `out` has 0 there
+pub record Cleared (book : ResidualBook) (base : ℕ) (entry before out : List ℤ) : Type 0 where
+  pub room : base + positions book ≤ length entry
+  pub keeps : take (positions book) (drop 0 before) ≡ take (positions book) (drop base entry)
+  pub clears : out ≡ sets entry base (take (positions book) (drop 0 (zeros 16)))
+
+pub clears-room : (book : ResidualBook) (base : ℕ) (entry before out : List ℤ) → base + positions book ≤ length entry → before ≡ sets (zeros 16) 0 (take (positions book) (drop base entry))
+    → out ≡ sets entry base (take (positions book) (drop 0 (zeros 16))) → Cleared book base entry before out
+clears-room book base entry before out h e f =
+    let n = positions book in
+    record {
+      room = h;
+      keeps = ap (λ (xs : List ℤ). take n (drop 0 xs)) e ∙ stored-first (zeros 16) (take n (drop base entry)) n (length-take-le n (drop base entry) (omega (arith, length-drop base entry))) (few book);
+      clears = f;
+    }
+
+-- `out₀` is what `out` held at first
+pub record Reading (book : ResidualBook) (start at : ℕ) (s : List Bool) (out₀ : List ℤ) (base position p : ℕ) (out : List ℤ) : Type 0 where
   pub done : List ℤ
   pub turns : ℕ
   pub taken : ℕ
@@ -55,19 +80,20 @@ pub record Reading (book : ResidualBook) (start at : ℕ) (s : List Bool) (posit
   pub within : position ≤ positions book
   pub enough : positions book ≤ position + turns
   pub moved : p ≡ at + taken
-  pub whole : length held ≡ 16
-  pub holds : take (positions book) held ≡ raster book (done ++ zeros (positions book - position))
+  pub room : base + positions book ≤ length out₀
+  pub holds : out ≡ sets out₀ base (held book done position)
   pub rest : block book start (drop at s) ≡ after taken (mapGot (λ ls. raster book (done ++ ls)) (levelsFrom book turns position (drop p s)))
 
-raster-zeros : (book : ResidualBook) → take (positions book) (zeros 16) ≡ raster book (zeros (positions book))
+raster-zeros : (book : ResidualBook) → take (positions book) (drop 0 (zeros 16)) ≡ raster book (zeros (positions book))
 unfolding raster listOf scan placeOf
 raster-zeros NormalScan = refl
 raster-zeros ChromaDc = refl
 
-pub begins : (book : ResidualBook) (start at : ℕ) (s : List Bool) → start ≤ positions book → Reading book start at s start at (zeros 16)
+pub begins : (book : ResidualBook) (start at : ℕ) (s : List Bool) (base : ℕ) (entry before out : List ℤ) → start ≤ positions book → Cleared book base entry before out → Reading book start at s out base start at out
 unfolding block levels
-begins book start at s h =
+begins book start at s base entry before out h c =
     let k = positions book - start in
+    let w = take (positions book) (drop 0 (zeros 16)) in
     let z : zeros start ++ zeros k ≡ zeros (positions book) = replicate-append-replicate start k (pos 0) ∙ ap zeros {x = start + k} {y = positions book} (omega arith) in
     record {
       done = zeros start;
@@ -77,8 +103,8 @@ begins book start at s h =
       within = h;
       enough = omega arith;
       moved = sym (add-zero at);
-      whole = refl;
-      holds = raster-zeros book ∙ ap (raster book) (sym z);
+      room = omega (arith, c .room, ap length (c .clears) ∙ length-sets entry base w);
+      holds = c .clears ∙ sym (sets-over entry base w w refl) ∙ ap₂ (λ xs ys. sets xs base ys) (sym (c .clears)) (raster-zeros book ∙ ap (raster book) (sym z));
       rest = sym (after-zero _);
     }
 
@@ -91,15 +117,15 @@ stands d r k i l e =
     set-at (d ++ zeros r) (pos 0) (zeros k) l i (length-append d (zeros r) ∙ ap (λ (n : ℕ). length d + n) (length-replicate r (pos 0)) ∙ e) ∙
     sym (append-snoc (d ++ zeros r) l (zeros k))
 
-module _ {book : ResidualBook} {start at : ℕ} {s : List Bool} {position p : ℕ} {held : List ℤ} (R : Reading book start at s position p held) where
+module _ {book : ResidualBook} {start at : ℕ} {s : List Bool} {out₀ : List ℤ} {base position p : ℕ} {out : List ℤ} (R : Reading book start at s out₀ base position p out) where
   pub ends-refused : (x : Refusal) → levelRun book (drop p s) ≡ refused x → block book start (drop at s) ≡ refused x
   ends-refused x e = rw (R .rest, from-refused book position (drop p s) (R .turns) x e)
 
   pub ends-past : (n : ℕ) (l : ℤ) (r : ℕ) → levelRun book (drop p s) ≡ got (Pair l r) n → positions book ≤ position + r → block book start (drop at s) ≡ refused (LevelPosition (position + r))
   ends-past n l r e h = rw (R .rest, from-past book position (drop p s) (R .turns) n l r e h)
 
-  pub ends : (n : ℕ) → levelRun book (drop p s) ≡ got said.End n → block book start (drop at s) ≡ got (take (positions book) held) (R .taken + n)
-  ends n e = rw (R .rest, from-end book position (drop p s) (R .turns) n e, add-zero n, R .holds)
+  pub ends : (n : ℕ) → levelRun book (drop p s) ≡ got said.End n → block book start (drop at s) ≡ got (held book (R .done) position) (R .taken + n)
+  ends n e = rw (R .rest, from-end book position (drop p s) (R .turns) n e, add-zero n)
 
   -- the run of what was read is below the positions, so that their sum fits
   pub run-fits : (n : ℕ) (l : ℤ) (r : ℕ) → levelRun book (drop p s) ≡ got (Pair l r) n → r < positions book
@@ -109,18 +135,22 @@ module _ {book : ResidualBook} {start at : ℕ} {s : List Bool} {position p : �
     more : List ℤ
     more = R .done ++ zeros r ++ l ∷ []
 
-    held-on : take (positions book) (set held (getD (scan book) (position + r) 0) l) ≡ raster book (more ++ zeros (positions book - (position + r + 1)))
+    held-on : set (held book (R .done) position) (getD (scan book) (position + r) 0) l ≡ held book more (position + r + 1)
     unfolding more
     held-on =
         let k = positions book - (position + r + 1) in
-        let q = getD (scan book) (position + r) 0 in
         let d : positions book - position ≡ r + suc k = omega arith in
         let n : length (R .done ++ zeros (positions book - position)) ≡ positions book =
         length-append (R .done) (zeros (positions book - position)) ∙ omega (arith, R .so-far, R .within, length-replicate (positions book - position) (pos 0)) in
-        take-set-lt (positions book) held q l (position-back book (position + r) h .1) ∙
-        ap (λ (xs : List ℤ). set xs q l) (R .holds) ∙
         raster-set book (R .done ++ zeros (positions book - position)) (position + r) l n h ∙
         ap (raster book) (ap (λ (i : ℕ). set (R .done ++ zeros i) (position + r) l) d ∙ stands (R .done) r k (position + r) l (omega (arith, R .so-far)))
+
+    stored-on : set out (base + getD (scan book) (position + r) 0) l ≡ sets out₀ base (held book more (position + r + 1))
+    stored-on =
+        let q = getD (scan book) (position + r) 0 in
+        ap (λ (xs : List ℤ). set xs (base + q) l) (R .holds) ∙
+        set-within out₀ base (held book (R .done) position) q l (omega (arith, position-back book (position + r) h .1, length-raster book (R .done ++ zeros (positions book - position)))) ∙
+        ap (sets out₀ base) held-on
 
     rest-on : (turns : ℕ) → R .turns ≡ suc turns → block book start (drop at s) ≡ after (R .taken + n) (mapGot (λ ls. raster book (more ++ ls)) (levelsFrom book turns (position + r + 1) (drop (p + n) s)))
     unfolding more
@@ -140,10 +170,10 @@ module _ {book : ResidualBook} {start at : ℕ} {s : List Bool} {position p : �
     unfolding more
     length-more = omega (arith, length-append (R .done ++ zeros r) (l ∷ []), length-append (R .done) (zeros r), length-replicate r (pos 0), R .so-far)
 
-    pub goes-on : Reading book start at s (position + r + 1) (p + n) (set held (getD (scan book) (position + r) 0) l)
+    pub goes-on : Reading book start at s out₀ base (position + r + 1) (p + n) (set out (base + getD (scan book) (position + r) 0) l)
     goes-on = go (R .turns) refl
       where
-        go : (turns : ℕ) → R .turns ≡ turns → Reading book start at s (position + r + 1) (p + n) (set held (getD (scan book) (position + r) 0) l)
+        go : (turns : ℕ) → R .turns ≡ turns → Reading book start at s out₀ base (position + r + 1) (p + n) (set out (base + getD (scan book) (position + r) 0) l)
         go zero t = absurd (omega (arith, R .enough))
         go (suc turns) t =
             record {
@@ -154,33 +184,55 @@ module _ {book : ResidualBook} {start at : ℕ} {s : List Bool} {position p : �
               within = omega arith;
               enough = omega (arith, R .enough);
               moved = omega (arith, R .moved);
-              whole = length-set held (getD (scan book) (position + r) 0) l ∙ R .whole;
-              holds = held-on;
+              room = R .room;
+              holds = stored-on;
               rest = rest-on turns t;
             }
 
 -- ---- what a turn answers, and what it leaves
-module _ {book : ResidualBook} {start at : ℕ} {s : List Bool} {position p : ℕ} {held : List ℤ} (R : Reading book start at s position p held) where
-  pub refused-answer : (out₀ out : List ℤ) (base : ℕ) (x : Refusal) → step.Refused x ≡ stepAnswer p (levelRun book (drop p s)) → out ≡ out₀ → Decoded at (block book start (drop at s)) out₀ base (Refused x) out
-  refused-answer out₀ out base x t o = rw (ends-refused R x (refused-told p (levelRun book (drop p s)) x t)) (record { answers = refl; leaves = o })
+module _ {book : ResidualBook} {start at : ℕ} {s : List Bool} {out₀ : List ℤ} {base position p : ℕ} {out : List ℤ} (R : Reading book start at s out₀ base position p out) where
+  pub same-room : length out ≡ length out₀
+  same-room = ap length (R .holds) ∙ length-sets out₀ base (held book (R .done) position)
+
+  pub room-now : base + positions book ≤ length out
+  room-now = omega (arith, R .room, same-room)
+
+  module _ (entry before : List ℤ) (C : Cleared book base entry before out₀) where
+    -- a list of the same length, stored where the levels are
+    stored-over : (xs : List ℤ) → length xs ≡ positions book → sets out₀ base xs ≡ sets entry base xs
+    stored-over xs e =
+        let w = take (positions book) (drop 0 (zeros 16)) in
+        ap (λ (ys : List ℤ). sets ys base xs) (C .clears) ∙ sets-over entry base w xs (ap length (raster-zeros book) ∙ length-raster book (zeros (positions book)) ∙ sym e)
+
+    left-over : out ≡ sets entry base (held book (R .done) position)
+    left-over = R .holds ∙ stored-over (held book (R .done) position) (length-raster book (R .done ++ zeros (positions book - position)))
+
+    -- what was there comes back
+    comes-back : (after : List ℤ) → after ≡ sets out base (take (positions book) (drop 0 before)) → after ≡ entry
+    comes-back after e =
+        e ∙ ap₂ (λ xs ys. sets xs base ys) left-over (C .keeps) ∙ restored entry base (positions book) (held book (R .done) position) (pos 0) (length-raster book (R .done ++ zeros (positions book - position))) (C .room)
+
+    pub refused-answer : (after : List ℤ) (x : Refusal) → after ≡ sets out base (take (positions book) (drop 0 before)) → step.Refused x ≡ stepAnswer p (levelRun book (drop p s)) → Decoded at (block book start (drop at s)) entry base (Refused x) after
+    refused-answer after x e t = rw (ends-refused R x (refused-told p (levelRun book (drop p s)) x t)) (record { answers = refl; leaves = comes-back after e })
+
+    pub past-answer : (after : List ℤ) (l : ℤ) (r q : ℕ) → after ≡ sets out base (take (positions book) (drop 0 before)) → step.Level l r q ≡ stepAnswer p (levelRun book (drop p s)) → positions book ≤ position + r
+        → Decoded at (block book start (drop at s)) entry base (Refused (LevelPosition (position + r))) after
+    past-answer after l r q e t h =
+        let a = level-told p (levelRun book (drop p s)) l r q t in
+        rw (ends-past R (a .taken) l r (a .is) h) (record { answers = refl; leaves = comes-back after e })
+
+    pub end-answer : (q : ℕ) → step.End q ≡ stepAnswer p (levelRun book (drop p s)) → Decoded at (block book start (drop at s)) entry base (End q) out
+    end-answer q t = go (end-told p (levelRun book (drop p s)) q t)
+      where
+        go : Answered p (levelRun book (drop p s)) said.End q → Decoded at (block book start (drop at s)) entry base (End q) out
+        go a = rw (ends R (a .taken) (a .is)) (record { answers = ap End (omega (arith, a .moved, R .moved)); leaves = left-over })
 
   module _ (l : ℤ) (r q : ℕ) (t : step.Level l r q ≡ stepAnswer p (levelRun book (drop p s))) where
     pub run-told : r < positions book
     run-told = let a = level-told p (levelRun book (drop p s)) l r q t in run-fits R (a .taken) l r (a .is)
 
-    pub past-answer : (out₀ out : List ℤ) (base : ℕ) → positions book ≤ position + r → out ≡ out₀ → Decoded at (block book start (drop at s)) out₀ base (Refused (LevelPosition (position + r))) out
-    past-answer out₀ out base h o =
-        let a = level-told p (levelRun book (drop p s)) l r q t in
-        rw (ends-past R (a .taken) l r (a .is) h) (record { answers = refl; leaves = o })
-
-    pub next-reading : (place : ℕ) (x : ℤ) → position + r < positions book → place ≡ getD (scan book) (position + r) 0 → x ≡ l → Reading book start at s (position + r + 1) q (set held place x)
+    pub next-reading : (place : ℕ) (x : ℤ) → position + r < positions book → place ≡ getD (scan book) (position + r) 0 → x ≡ l → Reading book start at s out₀ base (position + r + 1) q (set out (base + place) x)
     next-reading place x h e f = go (level-told p (levelRun book (drop p s)) l r q t)
       where
-        go : Answered p (levelRun book (drop p s)) (Pair l r) q → Reading book start at s (position + r + 1) q (set held place x)
+        go : Answered p (levelRun book (drop p s)) (Pair l r) q → Reading book start at s out₀ base (position + r + 1) q (set out (base + place) x)
         go a = rw (e, f, a .moved) (goes-on R (a .taken) l r (a .is) h)
-
-  pub end-answer : (out₀ out after : List ℤ) (base q : ℕ) → step.End q ≡ stepAnswer p (levelRun book (drop p s)) → out ≡ out₀ → after ≡ sets out base (take (positions book) held) → Decoded at (block book start (drop at s)) out₀ base (End q) after
-  end-answer out₀ out after base q t o e = go (end-told p (levelRun book (drop p s)) q t)
-    where
-      go : Answered p (levelRun book (drop p s)) said.End q → Decoded at (block book start (drop at s)) out₀ base (End q) after
-      go a = rw (ends R (a .taken) (a .is)) (record { answers = ap End (omega (arith, a .moved, R .moved)); leaves = e ∙ rw o })

@@ -202,30 +202,31 @@ fn next_level(bits: &[u8], at: usize, book: ResidualBook, window: Window) -> Tak
     }
 }
 
-// The first `count` levels of a block, stored from a place on.
-fn store_levels(out: &mut [i32], base: usize, levels: &[i32], count: usize)
-    requires { ⌜ (count ≤ length (now levels)) × (base + count ≤ length (now out)) ⌝ }
-    ensures { λ _. ⌜ now (out .exit) ≡ sets (now (out .entry)) base (take count (now (levels .entry))) ⌝ }
+// `count` levels from a place on, stored at another.
+fn store_levels(out: &mut [i32], base: usize, levels: &[i32], from: usize, count: usize)
+    requires { ⌜ (from + count ≤ length (now levels)) × (base + count ≤ length (now out)) ⌝ }
+    ensures { λ _. ⌜ now (out .exit) ≡ sets (now (out .entry)) base (take count (drop from (now (levels .entry)))) ⌝ }
 {
     let mut i = 0;
     while i < count {
-        out[base + i] = levels[i];
+        out[base + i] = levels[from + i];
         i += 1;
     }
 }
 
 // The levels of a list, with a count that the compiler knows.
-fn store_list(out: &mut [i32], base: usize, levels: &[i32; 16], book: ResidualBook)
-    requires { ⌜ base + positions book ≤ length (now out) ⌝ }
-    ensures { λ _. ⌜ now (out .exit) ≡ sets (now (out .entry)) base (take (positions book) (now (levels .entry))) ⌝ }
+fn store_list(out: &mut [i32], base: usize, levels: &[i32], from: usize, book: ResidualBook)
+    requires { ⌜ (from + positions book ≤ length (now levels)) × (base + positions book ≤ length (now out)) ⌝ }
+    ensures { λ _. ⌜ now (out .exit) ≡ sets (now (out .entry)) base (take (positions book) (drop from (now (levels .entry)))) ⌝ }
 {
     match book {
-        ResidualBook::NormalScan => store_levels(out, base, levels, 16),
-        ResidualBook::ChromaDc => store_levels(out, base, levels, 4),
+        ResidualBook::NormalScan => store_levels(out, base, levels, from, 16),
+        ResidualBook::ChromaDc => store_levels(out, base, levels, from, 4),
     }
 }
 
-// One list from a start position on. Its levels are stored by raster place once its end is read; a refused list stores nothing.
+// One list from a start position on. Each level is stored in `out` at once, by raster place, and what `out` held is brought back where the list
+// is refused: an array of its own, copied at the end, would be read by wide loads that wait for its narrow stores.
 fn decode_list(
     out: &mut [i32],
     base: usize,
@@ -238,7 +239,10 @@ fn decode_list(
     ensures { λ r. ⌜ Decoded at (block book start (drop at (bitList (now (bits .entry))))) (now (out .entry)) base r (now (out .exit)) ⌝ }
 {
     let count = positions_of(book);
-    let mut levels = [0i32; 16];
+    let none = [0i32; 16];
+    let mut before = [0i32; 16];
+    store_list(&mut before, 0, out, base, book);
+    store_list(out, base, &none, 0, book);
     let mut position = start;
     let mut p = at;
     let mut word: u64 = 0;
@@ -250,20 +254,21 @@ fn decode_list(
             Step::Level(level, run, next) => {
                 let reached = position + run;
                 if count <= reached {
+                    store_list(out, base, &before, 0, book);
                     return ListAnswer::Refused(Refusal::LevelPosition(reached));
                 }
                 let place = place_of(book, reached);
-                levels[place] = level;
+                out[base + place] = level;
                 position = reached + 1;
                 p = next;
                 word = taken.window.word;
                 left = taken.window.left;
             }
-            Step::End(next) => {
-                store_list(out, base, &levels, book);
-                return ListAnswer::End(next);
+            Step::End(next) => return ListAnswer::End(next),
+            Step::Refused(r) => {
+                store_list(out, base, &before, 0, book);
+                return ListAnswer::Refused(r);
             }
-            Step::Refused(r) => return ListAnswer::Refused(r),
         }
     }
 }

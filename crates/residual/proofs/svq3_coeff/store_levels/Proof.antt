@@ -4,19 +4,19 @@ use Prim.Native.Nat.{_≤_, _-_, _+_}
 use native.Mathlib.Omega.{arith}
 use borrow.Author.Needs.{needs}
 use lib.IntN.{pos}
-use lib.ListN.{length, take, set, getD, length-set}
+use lib.ListN.{length, take, drop, set, getD, length-set}
 use mir.Syntax.{w32}
 use mir.Val.{toZ, ofZ}
 use lib.Seq.{sets}
-use Rattle.residual.proofs.Stores.{stored-more}
+use Rattle.residual.proofs.Stores.{stored-from}
 use Rattle.residual.proofs.svq3_coeff.store_levels.Statement.{statement}
 use Rattle.residual.proofs.svq3_coeff.store_levels.Tie as tie
 
 abbrev Inv-loop : tie.InvT-loop
-Inv-loop out₀ base levels count i₀ out i = (i ≤ count) × (out ≡ sets out₀ base (take i levels)) × (length out ≡ length out₀)
+Inv-loop out₀ base levels from count i₀ out i = (i ≤ count) × (out ≡ sets out₀ base (take i (drop from levels))) × (length out ≡ length out₀)
 
 abbrev μ-loop : tie.MeasureT-loop
-μ-loop out₀ base levels count i₀ out i = count - i
+μ-loop out₀ base levels from count i₀ out i = count - i
 
 loop-holds : tie.Need-loop-holds Inv-loop μ-loop
 loop-holds c = (omega arith, refl, refl)
@@ -25,8 +25,8 @@ loop-again : tie.Need-loop-again Inv-loop μ-loop
 loop-again c =
     let a = c .before .before .before .args in
     let l = c .before .before .loop in
-    let z : toZ w32 (ofZ w32 (getD (a .levels .now) (l .i) (pos 0))) ≡ getD (a .levels .now) (l .i) (pos 0) = search needs in
-    (omega arith, ap₂ (λ xs x. set xs (a .base + l .i) x) (l .inv .1) z ∙ stored-more (a .out .now) (a .base) (a .levels .now) (l .i) (pos 0) (omega arith), simp length-set (l .inv .2))
+    let z : toZ w32 (ofZ w32 (getD (a .levels .now) (a .from + l .i) (pos 0))) ≡ getD (a .levels .now) (a .from + l .i) (pos 0) = search needs in
+    (omega arith, ap₂ (λ xs x. set xs (a .base + l .i) x) (l .inv .1) z ∙ stored-from (a .out .now) (a .base) (a .levels .now) (a .from) (l .i) (pos 0) (omega arith), simp length-set (l .inv .2))
 
 same-length : tie.Need-same-length Inv-loop μ-loop
 same-length c = c .before .loop .inv .2
@@ -43,6 +43,7 @@ store-levels-spec =
     Inv-loop
     μ-loop
     loop-holds
+    (λ c. omega arith)
     (λ c. omega arith)
     (λ c. omega arith)
     (λ c. omega arith)

@@ -1,7 +1,6 @@
 -- `residual::svq3_coeff::store_list` stores as many levels as the list has positions.
 use mathlib.Core.Path.{subst}
 use Prim.Native.Nat.{_+_, _≤_}
-use native.Mathlib.Omega.{arith}
 use borrow.Author.Needs.{needs}
 use lib.ListN.{length}
 use Rattle.residual.specs.Book.{positions}
@@ -10,21 +9,19 @@ use Rattle.residual.proofs.svq3_coeff.store_list.Tie as tie
 
 store-levels-requires : tie.Need-store-levels-requires
 store-levels-requires c κs =
-    let s = c .before .before .before .before in
-    let h = subst (λ b. s .args .base + positions b ≤ length (s .args .out .now)) (c .before .before .enum-told .given .1) (s .pre) in
-    (omega arith, h)
+    let s = c .before .before .before in
+    subst (λ b. (s .args .from + positions b ≤ length (s .args .levels .now)) × (s .args .base + positions b ≤ length (s .args .out .now))) (c .before .enum-told .given .1) (s .pre)
 
 store-levels-requires-2 : tie.Need-store-levels-requires-2
 store-levels-requires-2 c κs =
-    let s = c .before .before .before .before in
-    let h = subst (λ b. s .args .base + positions b ≤ length (s .args .out .now)) (c .before .before .enum-told2 .given .1) (s .pre) in
-    (omega arith, h)
+    let s = c .before .before .before in
+    subst (λ b. (s .args .from + positions b ≤ length (s .args .levels .now)) × (s .args .base + positions b ≤ length (s .args .out .now))) (c .before .enum-told2 .given .1) (s .pre)
 
 returns : tie.Need-returns
-returns c = rw (c .before .before .before .before .enum-told .given .1) (c .before .store-levels .ensures)
+returns c = rw (c .before .before .before .enum-told .given .1) (c .before .store-levels .ensures)
 
 returns-2 : tie.Need-returns-2
-returns-2 c = rw (c .before .before .before .before .enum-told2 .given .1) (c .before .store-levels2 .ensures)
+returns-2 c = rw (c .before .before .before .enum-told2 .given .1) (c .before .store-levels2 .ensures)
 
 pub store-list-spec : {M : Type 1} → statement M
 store-list-spec =
