@@ -14,6 +14,6 @@ use Rattle.record.specs.Items.{itemBook, itemStart, itemPlace, readItem}
 use Rattle.record.specs.Answers.{Left}
 use Rattle.record.proofs.Walks.{stored}
 
-pub read-stored : (i at : ℕ) (ls : List ℤ) (s : List Bool) (book : ResidualBook) (start place : ℕ) (answer : ListAnswer) (left : List ℤ) → itemBook i ≡ book → itemStart i ≡ start → place ≡ itemPlace i
-    → Decoded at (block book start s) ls place answer left → Left at (mapGot (sets ls (itemPlace i)) (readItem i s)) answer left
-read-stored i at ls s book start place answer left b z p d = rw (b, z, ← p) (stored at (block book start s) ls place answer left d)
+pub read-stored : (i at : ℕ) (ls : List ℤ) (s : List Bool) (book : ResidualBook) (start room place : ℕ) (answer : ListAnswer) (left : List ℤ) → itemBook i ≡ book → itemStart i ≡ start → place ≡ itemPlace i
+    → Decoded at room (block book start s) ls place answer left → Left at (mapGot (sets ls (itemPlace i)) (readItem i s)) answer left
+read-stored i at ls s book start room place answer left b z p d = rw (b, z, ← p) (stored at room (block book start s) ls place answer left d)

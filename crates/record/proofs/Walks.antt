@@ -22,9 +22,9 @@ use Rattle.record.proofs.Answers.{ended, refused-by, left-end, left-ref
 use Rattle.record.proofs.Turns.{when-true, when-false}
 
 -- a list that was read and stored at a place
-pub stored : (at : ℕ) (read : Got (List ℤ)) (out : List ℤ) (place : ℕ) (answer : ListAnswer) (left : List ℤ) → Decoded at read out place answer left → Left at (mapGot (sets out place) read) answer left
-stored at (got xs n) out place answer left d = record { answers = d .answers; leaves = λ ls k e. d .leaves ∙ got-value e }
-stored at (refused r) out place answer left d = record { answers = d .answers; leaves = λ ls k e. never e }
+pub stored : (at room : ℕ) (read : Got (List ℤ)) (out : List ℤ) (place : ℕ) (answer : ListAnswer) (left : List ℤ) → Decoded at room read out place answer left → Left at (mapGot (sets out place) read) answer left
+stored at room (got xs n) out place answer left d = record { answers = d .answers; leaves = λ ls k e. d .leaves ∙ got-value e }
+stored at room (refused r) out place answer left d = record { answers = d .answers; leaves = λ ls k e. never e }
 
 -- A GROUP THAT IS NOT CODED CHANGES NOTHING, whatever f says of the n lists from i on, as long as a list that is not coded changes nothing
 module _ {A : Type 0} (pattern : ℕ) (f : ℕ → ℕ → A) (passed : (n i : ℕ) → itemCoded pattern i ≡ false → f (suc n) i ≡ f n (suc i)) where

@@ -10,7 +10,7 @@ use Rattle.refusal.specs.Got.{Got, got, refused}
 use Rattle.refusal.specs.declared.Refusal.{Refusal}
 use Rattle.bits.proofs.Answers.{Answered}
 use Rattle.residual.specs.Pattern.{patternAnswer}
-use Rattle.residual.specs.Levels.{Decoded}
+use Rattle.residual.specs.Levels.{zeros, Decoded}
 use Rattle.residual.specs.declared.svq3_cbp.CbpAnswer.the-variants as cbp
 use Rattle.residual.specs.declared.svq3_coeff.ListAnswer.the-variants.{End, Refused}
 
@@ -30,11 +30,11 @@ pub record Stored (at : ℕ) (g : Got (List ℤ)) (out : List ℤ) (place q : �
   pub moved : q ≡ at + taken
   pub leaves : left ≡ sets out place levels
 
-pub list-answered : (at : ℕ) (g : Got (List ℤ)) (out : List ℤ) (place q : ℕ) (left : List ℤ) → Decoded at g out place (End q) left → Stored at g out place q left
-list-answered at (got bs n) out place q left d = record { levels = bs; taken = n; is = refl; moved = (let e = d .answers in cc); leaves = d .leaves }
-list-answered at (refused r) out place q left d = absurd (let e = d .answers in let z : _≡_ {A = ℕ} 0 1 = cc in omega arith)
+pub list-answered : (at room : ℕ) (g : Got (List ℤ)) (out : List ℤ) (place q : ℕ) (left : List ℤ) → Decoded at room g out place (End q) left → Stored at g out place q left
+list-answered at room (got bs n) out place q left d = record { levels = bs; taken = n; is = refl; moved = (let e = d .answers in cc); leaves = d .leaves }
+list-answered at room (refused r) out place q left d = absurd (let e = d .answers in let z : _≡_ {A = ℕ} 0 1 = cc in omega arith)
 
--- a refusal was answered: it is the definition's, and nothing is stored
-pub list-refused : (at : ℕ) (g : Got (List ℤ)) (out : List ℤ) (place : ℕ) (r : Refusal) (left : List ℤ) → Decoded at g out place (Refused r) left → (g ≡ refused r) × (left ≡ out)
-list-refused at (got bs n) out place r left d = absurd (let e = d .answers in let z : _≡_ {A = ℕ} 0 1 = cc in omega arith)
-list-refused at (refused x) out place r left d = (ap refused (let e = d .answers in cc), d .leaves)
+-- a refusal was answered: it is the definition's, and zeros are stored
+pub list-refused : (at room : ℕ) (g : Got (List ℤ)) (out : List ℤ) (place : ℕ) (r : Refusal) (left : List ℤ) → Decoded at room g out place (Refused r) left → (g ≡ refused r) × (left ≡ sets out place (zeros room))
+list-refused at room (got bs n) out place r left d = absurd (let e = d .answers in let z : _≡_ {A = ℕ} 0 1 = cc in omega arith)
+list-refused at room (refused x) out place r left d = (ap refused (let e = d .answers in cc), d .leaves)

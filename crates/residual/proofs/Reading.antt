@@ -7,8 +7,8 @@ use Prim.Native.Nat.{ℕ, zero, suc, _+_, _-_, _≤_, _<_}
 use native.Mathlib.Nat.{add-zero}
 use native.Mathlib.Omega.{arith}
 use lib.IntN.{ℤ, pos}
-use lib.ListN.{length, getD, take, drop, set, length-append, length-drop, length-replicate, replicate-append-replicate}
-use lib.Seq.{append-snoc, drop-drop, set-at, sets, length-sets, length-take-le}
+use lib.ListN.{length, getD, drop, set, length-append, length-replicate, replicate-append-replicate}
+use lib.Seq.{append-snoc, drop-drop, set-at, sets, length-sets}
 use Rattle.refusal.specs.Got.{Got, got, refused, after, mapGot}
 use Rattle.refusal.specs.declared.Refusal.{Refusal}
 use Rattle.refusal.specs.declared.Refusal.the-variants.{LevelPosition}
@@ -27,7 +27,7 @@ use Rattle.residual.specs.declared.svq3_coeff.ListAnswer.the-variants.{E
 use Rattle.residual.proofs.Gots.{after-zero, after-after, map-after, map-map}
 use Rattle.residual.proofs.Froms.{from-refused, from-end, from-past, from-level}
 use Rattle.residual.proofs.Rasters.{length-raster, position-back, raster-set}
-use Rattle.residual.proofs.Stores.{set-within, sets-over, restored, stored-first}
+use Rattle.residual.proofs.Stores.{set-within, sets-over}
 use Rattle.residual.proofs.Steps.{level-run-format}
 
 -- ---- what the answer of a step says
@@ -51,26 +51,6 @@ refused-told p (got (Pair a b) n) x e = absurd (let z : _≡_ {A = ℕ} 0 1 = cc
 abbrev held : (book : ResidualBook) (done : List ℤ) (position : ℕ) → List ℤ
 held book done position = raster book (done ++ zeros (positions book - position))
 
-pub few : (book : ResidualBook) → positions book ≤ 16
-few NormalScan = omega arith
-few ChromaDc = omega arith
-
--- what `entry` had in the room of a list is in `before`, and `out` has 0 there
-pub record Cleared (book : ResidualBook) (base : ℕ) (entry before out : List ℤ) : Type 0 where
-  pub room : base + positions book ≤ length entry
-  pub keeps : take (positions book) (drop 0 before) ≡ take (positions book) (drop base entry)
-  pub clears : out ≡ sets entry base (take (positions book) (drop 0 (zeros 16)))
-
-pub clears-room : (book : ResidualBook) (base : ℕ) (entry before out : List ℤ) → base + positions book ≤ length entry → before ≡ sets (zeros 16) 0 (take (positions book) (drop base entry))
-    → out ≡ sets entry base (take (positions book) (drop 0 (zeros 16))) → Cleared book base entry before out
-clears-room book base entry before out h e f =
-    let n = positions book in
-    record {
-      room = h;
-      keeps = ap (λ (xs : List ℤ). take n (drop 0 xs)) e ∙ stored-first (zeros 16) (take n (drop base entry)) n (length-take-le n (drop base entry) (omega (arith, length-drop base entry))) (few book);
-      clears = f;
-    }
-
 -- `out₀` is what `out` held at first
 pub record Reading (book : ResidualBook) (start at : ℕ) (s : List Bool) (out₀ : List ℤ) (base position p : ℕ) (out : List ℤ) : Type 0 where
   pub done : List ℤ
@@ -84,29 +64,33 @@ pub record Reading (book : ResidualBook) (start at : ℕ) (s : List Bool) (out�
   pub holds : out ≡ sets out₀ base (held book done position)
   pub rest : block book start (drop at s) ≡ after taken (mapGot (λ ls. raster book (done ++ ls)) (levelsFrom book turns position (drop p s)))
 
-raster-zeros : (book : ResidualBook) → take (positions book) (drop 0 (zeros 16)) ≡ raster book (zeros (positions book))
+raster-zeros : (book : ResidualBook) → zeros (positions book) ≡ raster book (zeros (positions book))
 unfolding raster listOf scan placeOf
 raster-zeros NormalScan = refl
 raster-zeros ChromaDc = refl
 
-pub begins : (book : ResidualBook) (start at : ℕ) (s : List Bool) (base : ℕ) (entry before out : List ℤ) → start ≤ positions book → Cleared book base entry before out → Reading book start at s out base start at out
-unfolding block levels
-begins book start at s base entry before out h c =
-    let k = positions book - start in
-    let w = take (positions book) (drop 0 (zeros 16)) in
-    let z : zeros start ++ zeros k ≡ zeros (positions book) = replicate-append-replicate start k (pos 0) ∙ ap zeros {x = start + k} {y = positions book} (omega arith) in
-    record {
-      done = zeros start;
-      turns = positions book;
-      taken = 0;
-      so-far = length-replicate start (pos 0);
-      within = h;
-      enough = omega arith;
-      moved = sym (add-zero at);
-      room = omega (arith, c .room, ap length (c .clears) ∙ length-sets entry base w);
-      holds = c .clears ∙ sym (sets-over entry base w w refl) ∙ ap₂ (λ xs ys. sets xs base ys) (sym (c .clears)) (raster-zeros book ∙ ap (raster book) (sym z));
-      rest = sym (after-zero _);
-    }
+module _ (book : ResidualBook) (base : ℕ) (entry out₀ : List ℤ) (clears : out₀ ≡ sets entry base (zeros (positions book))) where
+  -- as many levels, stored over the zeros
+  over : (xs : List ℤ) → length xs ≡ positions book → sets out₀ base xs ≡ sets entry base xs
+  over xs e = ap (λ (ys : List ℤ). sets ys base xs) clears ∙ sets-over entry base (zeros (positions book)) xs (length-replicate (positions book) (pos 0) ∙ sym e)
+
+  pub begins : (start at : ℕ) (s : List Bool) → start ≤ positions book → base + positions book ≤ length entry → Reading book start at s out₀ base start at out₀
+  unfolding block levels
+  begins start at s h room =
+      let k = positions book - start in
+      let z : zeros start ++ zeros k ≡ zeros (positions book) = replicate-append-replicate start k (pos 0) ∙ ap zeros {x = start + k} {y = positions book} (omega arith) in
+      record {
+        done = zeros start;
+        turns = positions book;
+        taken = 0;
+        so-far = length-replicate start (pos 0);
+        within = h;
+        enough = omega arith;
+        moved = sym (add-zero at);
+        room = omega (arith, room, ap length clears ∙ length-sets entry base (zeros (positions book)));
+        holds = clears ∙ sym (over (zeros (positions book)) (length-replicate (positions book) (pos 0))) ∙ ap (sets out₀ base) (raster-zeros book ∙ ap (raster book) (sym z));
+        rest = sym (after-zero _);
+      }
 
 -- ---- a turn
 -- a level r positions on, with k behind it
@@ -197,34 +181,28 @@ module _ {book : ResidualBook} {start at : ℕ} {s : List Bool} {out₀ : List �
   pub room-now : base + positions book ≤ length out
   room-now = omega (arith, R .room, same-room)
 
-  module _ (entry before : List ℤ) (C : Cleared book base entry before out₀) where
-    -- a list of the same length, stored where the levels are
-    stored-over : (xs : List ℤ) → length xs ≡ positions book → sets out₀ base xs ≡ sets entry base xs
-    stored-over xs e =
-        let w = take (positions book) (drop 0 (zeros 16)) in
-        ap (λ (ys : List ℤ). sets ys base xs) (C .clears) ∙ sets-over entry base w xs (ap length (raster-zeros book) ∙ length-raster book (zeros (positions book)) ∙ sym e)
-
+  module _ (entry : List ℤ) (clears : out₀ ≡ sets entry base (zeros (positions book))) where
     left-over : out ≡ sets entry base (held book (R .done) position)
-    left-over = R .holds ∙ stored-over (held book (R .done) position) (length-raster book (R .done ++ zeros (positions book - position)))
+    left-over = R .holds ∙ over book base entry out₀ clears (held book (R .done) position) (length-raster book (R .done ++ zeros (positions book - position)))
 
-    -- what was there comes back
-    comes-back : (after : List ℤ) → after ≡ sets out base (take (positions book) (drop 0 before)) → after ≡ entry
-    comes-back after e =
-        e ∙ ap₂ (λ xs ys. sets xs base ys) left-over (C .keeps) ∙ restored entry base (positions book) (held book (R .done) position) (pos 0) (length-raster book (R .done ++ zeros (positions book - position))) (C .room)
+    cleared-again : (after : List ℤ) → after ≡ sets out base (zeros (positions book)) → after ≡ sets entry base (zeros (positions book))
+    cleared-again after e =
+        e ∙ ap (λ (xs : List ℤ). sets xs base (zeros (positions book))) left-over ∙
+        sets-over entry base (held book (R .done) position) (zeros (positions book)) (length-raster book (R .done ++ zeros (positions book - position)) ∙ sym (length-replicate (positions book) (pos 0)))
 
-    pub refused-answer : (after : List ℤ) (x : Refusal) → after ≡ sets out base (take (positions book) (drop 0 before)) → step.Refused x ≡ stepAnswer p (levelRun book (drop p s)) → Decoded at (block book start (drop at s)) entry base (Refused x) after
-    refused-answer after x e t = rw (ends-refused R x (refused-told p (levelRun book (drop p s)) x t)) (record { answers = refl; leaves = comes-back after e })
+    pub refused-answer : (after : List ℤ) (x : Refusal) → after ≡ sets out base (zeros (positions book)) → step.Refused x ≡ stepAnswer p (levelRun book (drop p s)) → Decoded at (positions book) (block book start (drop at s)) entry base (Refused x) after
+    refused-answer after x e t = rw (ends-refused R x (refused-told p (levelRun book (drop p s)) x t)) (record { answers = refl; leaves = cleared-again after e })
 
-    pub past-answer : (after : List ℤ) (l : ℤ) (r q : ℕ) → after ≡ sets out base (take (positions book) (drop 0 before)) → step.Level l r q ≡ stepAnswer p (levelRun book (drop p s)) → positions book ≤ position + r
-        → Decoded at (block book start (drop at s)) entry base (Refused (LevelPosition (position + r))) after
+    pub past-answer : (after : List ℤ) (l : ℤ) (r q : ℕ) → after ≡ sets out base (zeros (positions book)) → step.Level l r q ≡ stepAnswer p (levelRun book (drop p s)) → positions book ≤ position + r
+        → Decoded at (positions book) (block book start (drop at s)) entry base (Refused (LevelPosition (position + r))) after
     past-answer after l r q e t h =
         let a = level-told p (levelRun book (drop p s)) l r q t in
-        rw (ends-past R (a .taken) l r (a .is) h) (record { answers = refl; leaves = comes-back after e })
+        rw (ends-past R (a .taken) l r (a .is) h) (record { answers = refl; leaves = cleared-again after e })
 
-    pub end-answer : (q : ℕ) → step.End q ≡ stepAnswer p (levelRun book (drop p s)) → Decoded at (block book start (drop at s)) entry base (End q) out
+    pub end-answer : (q : ℕ) → step.End q ≡ stepAnswer p (levelRun book (drop p s)) → Decoded at (positions book) (block book start (drop at s)) entry base (End q) out
     end-answer q t = go (end-told p (levelRun book (drop p s)) q t)
       where
-        go : Answered p (levelRun book (drop p s)) said.End q → Decoded at (block book start (drop at s)) entry base (End q) out
+        go : Answered p (levelRun book (drop p s)) said.End q → Decoded at (positions book) (block book start (drop at s)) entry base (End q) out
         go a = rw (ends R (a .taken) (a .is)) (record { answers = ap End (omega (arith, a .moved, R .moved)); leaves = left-over })
 
   module _ (l : ℤ) (r q : ℕ) (t : step.Level l r q ≡ stepAnswer p (levelRun book (drop p s))) where

@@ -92,12 +92,12 @@ abbrev pub listAnswer : ℕ → Got (List ℤ) → ListAnswer
 listAnswer at (got bs n) = End (at + n)
 listAnswer at (refused r) = Refused r
 
--- what `out` holds afterwards: the levels from a place on, or what it held
-abbrev pub leftIn : List ℤ → ℕ → Got (List ℤ) → List ℤ
-leftIn out place (got bs n) = sets out place bs
-leftIn out place (refused r) = out
+-- what `out` holds afterwards: from a place on, the levels, or as many zeros as there is room for
+abbrev pub leftIn : List ℤ → ℕ → ℕ → Got (List ℤ) → List ℤ
+leftIn out place room (got bs n) = sets out place bs
+leftIn out place room (refused r) = sets out place (zeros room)
 
 -- a reader's answer and what it leaves in `out`, of a block read at a place
-pub record Decoded (at : ℕ) (read : Got (List ℤ)) (out : List ℤ) (place : ℕ) (answer : ListAnswer) (left : List ℤ) : Type 0 where
+pub record Decoded (at room : ℕ) (read : Got (List ℤ)) (out : List ℤ) (place : ℕ) (answer : ListAnswer) (left : List ℤ) : Type 0 where
   pub answers : answer ≡ listAnswer at read
-  pub leaves : left ≡ leftIn out place read
+  pub leaves : left ≡ leftIn out place room read

@@ -1,12 +1,12 @@
 // The (level, run) code books, and the lists of levels that their codes make. The books and lists are those of specs/Book.antt and specs/Levels.antt.
 ghost use mathlib.Core.Path.{_≡_};
 ghost use Prim.Native.Nat.{_+_, _≤_, _<_, _^_};
-ghost use lib.ListN.{length, getD, take, drop};
+ghost use lib.ListN.{length, getD, drop};
 ghost use lib.Seq.{sets};
 ghost use Rattle.bits.specs.Bits.{bitList};
 ghost use Rattle.bits.specs.Window.{Shows};
 ghost use Rattle.residual.specs.Book.{positions, half, magnitudes, runs, levelOf, level, run, resolve};
-ghost use Rattle.residual.specs.Levels.{levelRun, block, stepAnswer, Stepped, Decoded};
+ghost use Rattle.residual.specs.Levels.{zeros, levelRun, block, stepAnswer, Stepped, Decoded};
 use crate::digits::digit;
 use crate::svq3_scan::place_of;
 use crate::svq3_scan::positions_of;
@@ -202,31 +202,30 @@ fn next_level(bits: &[u8], at: usize, book: ResidualBook, window: Window) -> Tak
     }
 }
 
-// `count` levels from a place on, stored at another.
-fn store_levels(out: &mut [i32], base: usize, levels: &[i32], from: usize, count: usize)
-    requires { ⌜ (from + count ≤ length (now levels)) × (base + count ≤ length (now out)) ⌝ }
-    ensures { λ _. ⌜ now (out .exit) ≡ sets (now (out .entry)) base (take count (drop from (now (levels .entry)))) ⌝ }
+fn clear_levels(out: &mut [i32], base: usize, count: usize)
+    requires { ⌜ base + count ≤ length (now out) ⌝ }
+    ensures { λ _. ⌜ now (out .exit) ≡ sets (now (out .entry)) base (zeros count) ⌝ }
 {
     let mut i = 0;
     while i < count {
-        out[base + i] = levels[from + i];
+        out[base + i] = 0;
         i += 1;
     }
 }
 
-// The levels of a list, with a count that the compiler knows.
-fn store_list(out: &mut [i32], base: usize, levels: &[i32], from: usize, book: ResidualBook)
-    requires { ⌜ (from + positions book ≤ length (now levels)) × (base + positions book ≤ length (now out)) ⌝ }
-    ensures { λ _. ⌜ now (out .exit) ≡ sets (now (out .entry)) base (take (positions book) (drop from (now (levels .entry)))) ⌝ }
+// The room of a list made 0, with a count that the compiler knows.
+fn clear_list(out: &mut [i32], base: usize, book: ResidualBook)
+    requires { ⌜ base + positions book ≤ length (now out) ⌝ }
+    ensures { λ _. ⌜ now (out .exit) ≡ sets (now (out .entry)) base (zeros (positions book)) ⌝ }
 {
     match book {
-        ResidualBook::NormalScan => store_levels(out, base, levels, from, 16),
-        ResidualBook::ChromaDc => store_levels(out, base, levels, from, 4),
+        ResidualBook::NormalScan => clear_levels(out, base, 16),
+        ResidualBook::ChromaDc => clear_levels(out, base, 4),
     }
 }
 
-// One list from a start position on. Each level is stored in `out` at once, by raster place, and what `out` held is brought back where the list
-// is refused: an array of its own, copied at the end, would be read by wide loads that wait for its narrow stores.
+// One list from a start position on. Each level is stored in `out` at once, by raster place, and a refused list leaves 0: an array of its own,
+// copied at the end, would be read by wide loads that wait for its narrow stores.
 fn decode_list(
     out: &mut [i32],
     base: usize,
@@ -236,13 +235,10 @@ fn decode_list(
     start: u32,
 ) -> ListAnswer
     requires { ⌜ (base + positions book ≤ length (now out)) × (start ≤ positions book) × (length (now bits) < 2 ^ 61) ⌝ }
-    ensures { λ r. ⌜ Decoded at (block book start (drop at (bitList (now (bits .entry))))) (now (out .entry)) base r (now (out .exit)) ⌝ }
+    ensures { λ r. ⌜ Decoded at (positions book) (block book start (drop at (bitList (now (bits .entry))))) (now (out .entry)) base r (now (out .exit)) ⌝ }
 {
     let count = positions_of(book);
-    let none = [0i32; 16];
-    let mut before = [0i32; 16];
-    store_list(&mut before, 0, out, base, book);
-    store_list(out, base, &none, 0, book);
+    clear_list(out, base, book);
     let mut position = start;
     let mut p = at;
     let mut word: u64 = 0;
@@ -254,7 +250,7 @@ fn decode_list(
             Step::Level(level, run, next) => {
                 let reached = position + run;
                 if count <= reached {
-                    store_list(out, base, &before, 0, book);
+                    clear_list(out, base, book);
                     return ListAnswer::Refused(Refusal::LevelPosition(reached));
                 }
                 let place = place_of(book, reached);
@@ -266,7 +262,7 @@ fn decode_list(
             }
             Step::End(next) => return ListAnswer::End(next),
             Step::Refused(r) => {
-                store_list(out, base, &before, 0, book);
+                clear_list(out, base, book);
                 return ListAnswer::Refused(r);
             }
         }
@@ -282,7 +278,7 @@ pub fn decode_residual_4x4_normal(
     start: u32,
 ) -> ListAnswer
     requires { ⌜ (base + 16 ≤ length (now out)) × (start ≤ 1) × (length (now bits) < 2 ^ 61) ⌝ }
-    ensures { λ r. ⌜ Decoded at (block ResidualBook.NormalScan start (drop at (bitList (now (bits .entry))))) (now (out .entry)) base r (now (out .exit)) ⌝ }
+    ensures { λ r. ⌜ Decoded at 16 (block ResidualBook.NormalScan start (drop at (bitList (now (bits .entry))))) (now (out .entry)) base r (now (out .exit)) ⌝ }
 {
     decode_list(out, base, bits, at, ResidualBook::NormalScan, start)
 }
@@ -290,7 +286,7 @@ pub fn decode_residual_4x4_normal(
 // The four chroma DC levels of a plane.
 pub fn decode_chroma_dc_2x2(out: &mut [i32], base: usize, bits: &[u8], at: usize) -> ListAnswer
     requires { ⌜ (base + 4 ≤ length (now out)) × (length (now bits) < 2 ^ 61) ⌝ }
-    ensures { λ r. ⌜ Decoded at (block ResidualBook.ChromaDc 0 (drop at (bitList (now (bits .entry))))) (now (out .entry)) base r (now (out .exit)) ⌝ }
+    ensures { λ r. ⌜ Decoded at 4 (block ResidualBook.ChromaDc 0 (drop at (bitList (now (bits .entry))))) (now (out .entry)) base r (now (out .exit)) ⌝ }
 {
     decode_list(out, base, bits, at, ResidualBook::ChromaDc, 0)
 }

@@ -17,7 +17,7 @@ returns : tie.Need-returns
 returns c =
     let a = c .before .before .before .before .before .before .args in
     let k = is-luma (a .i) (c .before .before .before .if1 .taken) in
-    read-stored (a .i) (a .at) (a .levels .now) _ NormalScan 0 _ _ _ (k .book) (k .start) (c .before .before .before .before .item-place .ensures) (c .before .decode-residual-4x4-normal .ensures)
+    read-stored (a .i) (a .at) (a .levels .now) _ NormalScan 0 16 _ _ _ (k .book) (k .start) (c .before .before .before .before .item-place .ensures) (c .before .decode-residual-4x4-normal .ensures)
 
 decode-chroma-dc-2x2-requires : tie.Need-decode-chroma-dc-2x2-requires
 decode-chroma-dc-2x2-requires c κs =
@@ -28,7 +28,7 @@ returns-2 : tie.Need-returns-2
 returns-2 c =
     let a = c .before .before .before .before .before .before .before .args in
     let k = is-dc (a .i) (c .before .before .before .before .if1 .left) (c .before .before .before .if2 .taken) in
-    read-stored (a .i) (a .at) (a .levels .now) _ ChromaDc 0 _ _ _ (k .book) (k .start) (c .before .before .before .before .before .item-place .ensures) (c .before .decode-chroma-dc-2x2 .ensures)
+    read-stored (a .i) (a .at) (a .levels .now) _ ChromaDc 0 4 _ _ _ (k .book) (k .start) (c .before .before .before .before .before .item-place .ensures) (c .before .decode-chroma-dc-2x2 .ensures)
 
 decode-residual-4x4-normal-requires-2 : tie.Need-decode-residual-4x4-normal-requires-2
 decode-residual-4x4-normal-requires-2 c κs =
@@ -39,7 +39,7 @@ returns-3 : tie.Need-returns-3
 returns-3 c =
     let a = c .before .before .before .before .before .before .before .args in
     let k = is-ac (a .i) (c .before .before .before .if2 .left) in
-    read-stored (a .i) (a .at) (a .levels .now) _ NormalScan 1 _ _ _ (k .book) (k .start) (c .before .before .before .before .before .item-place .ensures) (c .before .decode-residual-4x4-normal2 .ensures)
+    read-stored (a .i) (a .at) (a .levels .now) _ NormalScan 1 16 _ _ _ (k .book) (k .start) (c .before .before .before .before .before .item-place .ensures) (c .before .decode-residual-4x4-normal2 .ensures)
 
 pub read-item-spec : {M : Type 1} → statement M
 read-item-spec =

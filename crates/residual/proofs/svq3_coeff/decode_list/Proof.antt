@@ -1,6 +1,6 @@
 -- `residual::svq3_coeff::decode_list`: each turn keeps `Reading` and a window of the bits at its place, and each way out is one of the laws of `Reading`.
 use mathlib.Core.Path.{_≡_, sym, _∙_}
-use Prim.Native.Nat.{_+_, _-_, _*_, _^_, _<_}
+use Prim.Native.Nat.{_+_, _-_, _*_, _^_, _≤_, _<_}
 use native.Mathlib.Omega.{arith}
 use borrow.Author.Needs.{needs}
 use lib.ListN.{drop}
@@ -10,84 +10,73 @@ use Rattle.bits.specs.Bits.{bitList}
 use Rattle.bits.specs.Window.{Shows}
 use Rattle.bits.proofs.Windows.{shows-none}
 use Rattle.residual.specs.Book.{positions}
-use Rattle.residual.proofs.Reading.{few, Cleared, clears-room, Reading, begins, same-room, room-now, run-told, next-reading, refused-answer, past-answer, end-answer}
+use Rattle.residual.specs.declared.svq3_coeff.ResidualBook.{ResidualBook}
+use Rattle.residual.specs.declared.svq3_coeff.ResidualBook.the-variants.{NormalScan, ChromaDc}
+use Rattle.residual.proofs.Reading.{Reading, begins, same-room, room-now, run-told, next-reading, refused-answer, past-answer, end-answer}
 use Rattle.residual.proofs.Rasters.{position-back}
 use Rattle.residual.proofs.svq3_coeff.decode_list.Statement.{statement}
 use Rattle.residual.proofs.svq3_coeff.decode_list.Tie as tie
 
 abbrev Inv-loop : tie.InvT-loop
-Inv-loop out₀ base bits at book start count before position₀ p₀ word₀ left₀ out position p word left =
+Inv-loop out₀ base bits at book start count position₀ p₀ word₀ left₀ out position p word left =
     Reading book start at (bitList bits) out₀ base position p out × (count ≡ positions book) × Shows word left (drop p (bitList bits))
 
 abbrev μ-loop : tie.MeasureT-loop
-μ-loop out₀ base bits at book start count before position₀ p₀ word₀ left₀ out position p word left = positions book - position
+μ-loop out₀ base bits at book start count position₀ p₀ word₀ left₀ out position p word left = positions book - position
 
-store-list-requires : tie.Need-store-list-requires Inv-loop μ-loop
-store-list-requires c κs = let s = c .before .before .before .before in (s .pre .0, omega (arith, few (s .args .book)))
-
-store-list-requires-2 : tie.Need-store-list-requires-2 Inv-loop μ-loop
-store-list-requires-2 c κs = let s = c .before .before .before .before .before .before .before .before in (omega (arith, few (s .args .book)), s .pre .0)
-
--- what the two stores before the loop leave
-abbrev Cleared-at : tie.After-out Inv-loop μ-loop → Type 0
-Cleared-at c =
-    let a = c .before .before .before .before .before .before .before .before .before .before .args in
-    Cleared (a .book) (a .base) (a .out .now) (c .before .before .before .before .before .store-list .last .0) (c .before .store-list2 .last .0)
-
-cleared : (c : tie.After-out Inv-loop μ-loop) → Cleared-at c
-cleared c = let s = c .before .before .before .before .before .before .before .before .before .before in clears-room (s .args .book) (s .args .base) (s .args .out .now) _ _ (s .pre .0) (c .before .before .before .before .before .store-list .ensures) (c .before .store-list2 .ensures)
+few : (book : ResidualBook) → positions book ≤ 16
+few NormalScan = omega arith
+few ChromaDc = omega arith
 
 loop-holds : tie.Need-loop-holds Inv-loop μ-loop
 loop-holds c =
-    let s = c .before .before .before .before .before .before .before .before .before .before in
+    let s = c .before .before .before .before .before in
     let a = s .args in
-    (begins (a .book) (a .start) (a .at) (bitList (a .bits .now)) (a .base) (a .out .now) _ _ (s .pre .1) (cleared c), c .before .before .before .before .before .before .before .before .positions-of .ensures, shows-none 0 (drop (a .at) (bitList (a .bits .now))))
+    (begins (a .book) (a .base) (a .out .now) _ (c .before .clear-list .ensures) (a .start) (a .at) (bitList (a .bits .now)) (s .pre .1) (s .pre .0), c .before .before .before .positions-of .ensures, shows-none 0 (drop (a .at) (bitList (a .bits .now))))
 
 next-level-requires : tie.Need-next-level-requires Inv-loop μ-loop
-next-level-requires c κs = (c .before .before .before .before .before .before .before .before .before .before .before .pre .2, c .loop .inv .2)
+next-level-requires c κs = (c .before .before .before .before .before .before .pre .2, c .loop .inv .2)
 
 add-reached : tie.Need-add-reached Inv-loop μ-loop
 add-reached c =
     let d = c .before .before .before .before in
     let l = c .before .step .given in
     let r = run-told (d .loop .inv .0) (l .0 .0) (l .0 .1 .0) (l .0 .1 .1 .0) (sym (l .1) ∙ c .before .before .before .next-level .ensures .says) in
-    omega (arith, r, few (d .before .before .before .before .before .before .before .before .before .before .before .args .book), d .loop .inv .0 .within)
+    omega (arith, r, few (d .before .before .before .before .before .before .args .book), d .loop .inv .0 .within)
 
-store-list-requires-3 : tie.Need-store-list-requires-3 Inv-loop μ-loop
-store-list-requires-3 c κs =
-    let d = c .before .before .before .before .before .before .before in
-    (omega (arith, few (d .before .before .before .before .before .before .before .before .before .before .before .args .book), d .before .before .before .before .before .before .store-list .kept .0), room-now (d .loop .inv .0))
+clear-list-requires-2 : tie.Need-clear-list-requires-2 Inv-loop μ-loop
+clear-list-requires-2 c κs = room-now (c .before .before .before .before .before .before .loop .inv .0)
 
 same-length : tie.Need-same-length Inv-loop μ-loop
-same-length c = let d = c .before .before .before .before .before .before .before .before .before in c .before .store-list3 .kept .0 ∙ same-room (d .loop .inv .0) ∙ d .before .before .store-list2 .kept .0
+same-length c = let d = c .before .before .before .before .before .before .before .before in c .before .clear-list2 .kept .0 ∙ same-room (d .loop .inv .0) ∙ d .before .before .clear-list .kept .0
 
 returns : tie.Need-returns Inv-loop μ-loop
 returns c =
-    let d = c .before .before .before .before .before .before .before .before .before in
-    let l = c .before .before .before .before .before .before .step .given in
-    past-answer (d .loop .inv .0) _ _ (cleared (d .before)) _ (l .0 .0) (l .0 .1 .0) (l .0 .1 .1 .0) (c .before .store-list3 .ensures) (sym (l .1) ∙ c .before .before .before .before .before .before .before .before .next-level .ensures .says) (omega (arith, c .before .before .before .before .if1 .taken, d .loop .inv .1))
+    let d = c .before .before .before .before .before .before .before .before in
+    let l = c .before .before .before .before .before .step .given in
+    past-answer (d .loop .inv .0) _ (d .before .before .clear-list .ensures) _ (l .0 .0) (l .0 .1 .0) (l .0 .1 .1 .0) (c .before .clear-list2 .ensures) (sym (l .1) ∙ c .before .before .before .before .before .before .before .next-level .ensures .says) (omega (arith, c .before .before .before .if1 .taken, d .loop .inv .1))
 
 place-of-requires : tie.Need-place-of-requires Inv-loop μ-loop
 place-of-requires c κs = omega (arith, c .if1 .left, c .before .before .before .before .before .loop .inv .1)
 
-placed : (c : tie.After-place-of Inv-loop μ-loop) → c .place-of .result < positions (c .before .before .before .before .before .before .before .before .before .before .before .before .before .before .before .before .before .args .book)
+placed : (c : tie.After-place-of Inv-loop μ-loop) → c .place-of .result < positions (c .before .before .before .before .before .before .before .before .before .before .before .before .args .book)
 placed c =
     let d = c .before .before .before .before .before .before in
-    let b = position-back (d .before .before .before .before .before .before .before .before .before .before .before .args .book) (d .loop .position + c .before .before .before .step .given .0 .1 .0) (omega (arith, c .before .if1 .left, d .loop .inv .1)) .1 in
+    let b = position-back (d .before .before .before .before .before .before .args .book) (d .loop .position + c .before .before .before .step .given .0 .1 .0) (omega (arith, c .before .if1 .left, d .loop .inv .1)) .1 in
     omega (arith, c .place-of .ensures)
 
 slice-set-from-level : tie.Need-slice-set-from-level Inv-loop μ-loop
 slice-set-from-level c = omega (arith, placed c, room-now (c .before .before .before .before .before .before .loop .inv .0))
 
 -- the place is one of a slice
-small : (c : tie.After-place-of Inv-loop μ-loop) → (c .before .before .before .before .before .before .before .before .before .before .before .before .before .before .before .before .before .args .base + c .place-of .result) * 4 < 2 ^ 64
+small : (c : tie.After-place-of Inv-loop μ-loop) → (c .before .before .before .before .before .before .before .before .before .before .before .before .args .base + c .place-of .result) * 4 < 2 ^ 64
 small c =
     let d = c .before .before .before .before .before .before in
-    let e = same-room (d .loop .inv .0) ∙ d .before .before .store-list2 .kept .0 in
-    omega (arith, slice-set-from-level c, e, d .before .before .before .before .before .before .before .before .before .before .before .good .0)
+    let e = same-room (d .loop .inv .0) ∙ d .before .before .clear-list .kept .0 in
+    omega (arith, slice-set-from-level c, e, d .before .before .before .before .before .before .good .0)
 
 add-position : tie.Need-add-position Inv-loop μ-loop
-add-position c = let d = c .before .before .before .before .before .before in omega (arith, c .before .if1 .left, d .loop .inv .1, few (d .before .before .before .before .before .before .before .before .before .before .before .args .book))
+add-position c = let d = c .before .before .before .before .before .before in omega (arith, c .before .if1 .left, d .loop .inv .1, few (d .before .before .before .before .before .before .args .book))
 
 loop-less : tie.Need-loop-less Inv-loop μ-loop
 loop-less c = omega (arith, c .before .if1 .left, c .before .before .before .before .before .before .loop .inv .1)
@@ -101,23 +90,19 @@ loop-again c =
     (next-reading (d .loop .inv .0) (l .0 .0) (l .0 .1 .0) (l .0 .1 .1 .0) (sym (l .1) ∙ n .says) _ _ (omega (arith, c .before .if1 .left, d .loop .inv .1)) (c .place-of .ensures) z, d .loop .inv .1, n .shows (l .0 .0) (l .0 .1 .0) (l .0 .1 .1 .0) (l .1))
 
 same-length-2 : tie.Need-same-length-2 Inv-loop μ-loop
-same-length-2 c = let d = c .before .before .before .before in same-room (d .loop .inv .0) ∙ d .before .before .store-list2 .kept .0
+same-length-2 c = let d = c .before .before .before .before in same-room (d .loop .inv .0) ∙ d .before .before .clear-list .kept .0
 
 returns-2 : tie.Need-returns-2 Inv-loop μ-loop
-returns-2 c = let d = c .before .before .before .before in end-answer (d .loop .inv .0) _ _ (cleared (d .before)) _ (sym (c .before .step2 .given .1) ∙ c .before .before .before .next-level .ensures .says)
+returns-2 c = let d = c .before .before .before .before in end-answer (d .loop .inv .0) _ (d .before .before .clear-list .ensures) _ (sym (c .before .step2 .given .1) ∙ c .before .before .before .next-level .ensures .says)
 
-store-list-requires-4 : tie.Need-store-list-requires-4 Inv-loop μ-loop
-store-list-requires-4 c κs =
-    let d = c .before .before .before .before .before .before in
-    (omega (arith, few (d .before .before .before .before .before .before .before .before .before .before .before .args .book), d .before .before .before .before .before .before .store-list .kept .0), room-now (d .loop .inv .0))
+clear-list-requires-3 : tie.Need-clear-list-requires-3 Inv-loop μ-loop
+clear-list-requires-3 c κs = room-now (c .before .before .before .before .before .loop .inv .0)
 
 same-length-3 : tie.Need-same-length-3 Inv-loop μ-loop
-same-length-3 c = let d = c .before .before .before .before .before .before .before .before in c .before .store-list4 .kept .0 ∙ same-room (d .loop .inv .0) ∙ d .before .before .store-list2 .kept .0
+same-length-3 c = let d = c .before .before .before .before .before .before .before in c .before .clear-list3 .kept .0 ∙ same-room (d .loop .inv .0) ∙ d .before .before .clear-list .kept .0
 
 returns-3 : tie.Need-returns-3 Inv-loop μ-loop
-returns-3 c =
-    let d = c .before .before .before .before .before .before .before .before in
-    refused-answer (d .loop .inv .0) _ _ (cleared (d .before)) _ _ (c .before .store-list4 .ensures) (sym (c .before .before .before .before .before .step3 .given .1) ∙ c .before .before .before .before .before .before .before .next-level .ensures .says)
+returns-3 c = let d = c .before .before .before .before .before .before .before in refused-answer (d .loop .inv .0) _ (d .before .before .clear-list .ensures) _ _ (c .before .clear-list3 .ensures) (sym (c .before .before .before .before .step3 .given .1) ∙ c .before .before .before .before .before .before .next-level .ensures .says)
 
 pub decode-list-spec : {M : Type 1} → statement M
 decode-list-spec =
@@ -126,16 +111,12 @@ decode-list-spec =
     Inv-loop
     μ-loop
     (λ c κs. search needs)
-    (λ c. search needs)
-    store-list-requires
-    (λ c. search needs)
-    store-list-requires-2
+    (λ c κs. c .before .before .before .pre .0)
     loop-holds
     next-level-requires
     (λ c. search needs)
     add-reached
-    (λ c. search needs)
-    store-list-requires-3
+    clear-list-requires-2
     same-length
     returns
     place-of-requires
@@ -149,7 +130,6 @@ decode-list-spec =
     same-length-2
     returns-2
     (λ c. search needs)
-    (λ c. search needs)
-    store-list-requires-4
+    clear-list-requires-3
     same-length-3
     returns-3)
