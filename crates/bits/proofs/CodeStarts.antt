@@ -1,24 +1,20 @@
 -- What a byte says of the code that starts there.
 -- Assumes nothing.
-use mathlib.Core.Path.{_≡_, refl, sym, ap, ap₂, subst, _∙_}
-use mathlib.Core.Bool.{Bool, true, false, cond, _&&_, _||_}
+use mathlib.Core.Path.{_≡_, refl, sym, ap, _∙_}
+use mathlib.Core.Bool.{Bool, true, false, cond, _&&_}
 use mathlib.Core.List.{List, [], _∷_, _++_}
-use Prim.Native.Nat.{ℕ, _+_, _-_, _*_, _/_, _<_, _≤_}
+use Prim.Native.Nat.{ℕ, _+_, _-_, _*_, _/_, _<_}
 use native.Mathlib.Omega.{arith}
-use borrow.Author.Tests.{eqb-true, eqb-false, le-ltb, lt-leb, ne-eqb}
-use lib.Dec.{T, eqb, leb, ltb, eqb→eq, ltb→lt}
-use lib.ListN.{length, drop, length-drop}
+use borrow.Author.Tests.{eqb-true, eqb-false}
+use lib.Dec.{T, eqb, eqb→eq}
+use lib.ListN.{drop}
 use Rattle.refusal.specs.Got.{Got, got, refused, after}
-use Rattle.refusal.proofs.Formats.{bounded}
-use Rattle.bits.specs.Bits.{odd, byteBits, bitList}
+use Rattle.bits.specs.Bits.{odd, byteBits}
 use Rattle.bits.specs.Code.{codeFrom, code, bitValue, codeAnswer}
 use Rattle.bits.specs.Starts.{Short, Starts, Begins}
-use Rattle.bits.specs.Window.{ShortAt}
 use Rattle.bits.specs.declared.svq3.CodeAnswer.the-variants.{Code}
 use Rattle.bits.proofs.Table.{both-left, both-right, every, at}
-use Rattle.bits.proofs.BitAt.{length-bits}
 use Rattle.bits.proofs.CodeStep.{moved, value-le}
-use Rattle.bits.proofs.Unique.{code-format}
 
 -- a 1 followed by data bits
 abbrev one : Bool → ℕ
@@ -142,51 +138,6 @@ computed f g t w h =
     let y = eqb→eq (g w) (headNine w) (both-right (eqb (f w) (beforeNine w)) (eqb (g w) (headNine w)) a) in
     rw (x, y) (nine-says w)
 
--- ---- a short code by its size, half of it, and its last data bit
-module _ (s : List Bool) (n m size half last : ℕ) where
-  by-half : Short s n m → size ≡ n + 1 → half < 8 → last < 2 → (n ≡ 0 → m ≡ 1) → (0 < n → n < 8 → (2 * half + last ≡ m) × (0 < half)) → ShortAt s size half last
-  by-half found e l b zero other =
-      record {
-        some = omega arith;
-        within = omega arith;
-        small = l;
-        bit = b;
-        zero-code = λ h. found .ends (omega arith) ∙ ap₂ got (omega (arith, zero (omega arith))) (omega arith);
-        other-code = λ h k. let o = other (omega arith) (omega arith) in (o .1, found .ends (omega arith) ∙ ap₂ got (omega arith) (omega arith));
-      }
-
-or-else : (a b : Bool) → T (a || b) → a ≡ false → T b
-or-else true b t e = absurd (subst T e tt)
-or-else false b t e = t
-
--- three functions of the byte that pass this test compute them
-abbrev sized : (ℕ → ℕ) → ℕ → Bool
-sized f w = eqb (f w) (beforeOf w + 1)
-
-abbrev zeroHead : ℕ → Bool
-zeroHead w = ltb 0 (beforeOf w) || eqb (headOf w) 1
-
-abbrev halved : (ℕ → ℕ) → (ℕ → ℕ) → ℕ → Bool
-halved g h w = eqb (2 * g w + h w) (headOf w) && ltb 0 (g w)
-
-abbrev pub rightShort : (ℕ → ℕ) → (ℕ → ℕ) → (ℕ → ℕ) → ℕ → Bool
-rightShort f g h w = sized f w && (zeroHead w && (eqb (beforeOf w) 0 || (leb 8 (beforeOf w) || halved g h w)))
-
-pub computed-short : (f g h : ℕ → ℕ) → T (every (rightShort f g h) 256) → (w : ℕ) → w < 256 → g w < 8 → h w < 2 → (rest : List Bool) → ShortAt (byteBits w ++ rest) (f w) (g w) (h w)
-computed-short f g h t w l small bit rest =
-    let tail = eqb (beforeOf w) 0 || (leb 8 (beforeOf w) || halved g h w) in
-    let a = at (rightShort f g h) 256 t w l in
-    let b = both-right (sized f w) (zeroHead w && tail) a in
-    let size = eqb→eq (f w) (beforeOf w + 1) (both-left (sized f w) (zeroHead w && tail) a) in
-    let z = both-left (zeroHead w) tail b in
-    let o = both-right (zeroHead w) tail b in
-    by-half (byteBits w ++ rest) (beforeOf w) (headOf w) (f w) (g w) (h w) (byte-says w .short rest) size small bit
-    (λ e. eqb→eq (headOf w) 1 (or-else (ltb 0 (beforeOf w)) (eqb (headOf w) 1) z (le-ltb 0 (beforeOf w) (omega arith))))
-    (λ p q.
-    let u = or-else (eqb (beforeOf w) 0) (leb 8 (beforeOf w) || halved g h w) o (ne-eqb (beforeOf w) 0 (λ e. omega arith)) in
-    let v = or-else (leb 8 (beforeOf w)) (halved g h w) u (lt-leb 8 (beforeOf w) q) in
-    (eqb→eq (2 * g w + h w) (headOf w) (both-left (eqb (2 * g w + h w) (headOf w)) (ltb 0 (g w)) v), ltb→lt 0 (g w) (both-right (eqb (2 * g w + h w) (headOf w)) (ltb 0 (g w)) v)))
-
 -- ---- bits that start with these nine
 module _ (bits : List Bool) (p w n m : ℕ) (begins : drop p bits ≡ byteBits (w / 2) ++ drop (p + 8) bits) (says : Begins w n m) where
   -- a code that was found is the answer
@@ -198,14 +149,3 @@ module _ (bits : List Bool) (p w n m : ℕ) (begins : drop p bits ≡ byteBits (
 
   pub later : n ≡ 10 → codeAnswer (p + 8) (codeFrom 27 (m / 2) (drop (p + 8) bits)) ≡ codeAnswer p (code (drop p bits))
   later h = sym (ap (λ s. codeAnswer p (code s)) begins ∙ ap (codeAnswer p) (says .goes-on h (drop (p + 8) bits)) ∙ moved p 8 (p + 8) (codeFrom 27 (m / 2) (drop (p + 8) bits)) refl)
-
--- and its bits are there
-pub inside : (s : List ℕ) (p size half last : ℕ) → ShortAt (drop p (bitList s)) size half last → size < 9 → p + size ≤ 8 * length s
-inside s p size half last found h = go (eqb size 1) refl
-  where
-    within : (k : ℕ) → code (drop p (bitList s)) ≡ got k size → p + size ≤ 8 * length s
-    within k e = omega (arith, found .some, bounded code-format (drop p (bitList s)) k size e, length-drop p (bitList s), length-bits s)
-
-    go : (t : Bool) → eqb size 1 ≡ t → p + size ≤ 8 * length s
-    go true e = let z = eqb-true size 1 e in within 0 (found .zero-code z ∙ ap (got 0) (sym z))
-    go false e = within (2 * half + last - 1) (found .other-code (omega (arith, found .some, eqb-false size 1 e)) h .1)

@@ -5,7 +5,8 @@ ghost use lib.ListN.{length, getD, drop};
 ghost use lib.Seq.{sets};
 ghost use Rattle.bits.specs.Bits.{bitList};
 ghost use Rattle.bits.specs.Window.{Shows};
-ghost use Rattle.residual.specs.Book.{positions, half, magnitudes, runs, levelOf, level, run, resolve};
+ghost use Rattle.residual.specs.Book.{positions, half, levelOf, level, run, resolve};
+ghost use Rattle.residual.specs.Short.{entries, entryLevel};
 ghost use Rattle.residual.specs.Levels.{zeros, levelRun, block, stepAnswer, Stepped, Decoded};
 use crate::digits::digit;
 use crate::svq3_scan::place_of;
@@ -13,10 +14,11 @@ use crate::svq3_scan::positions_of;
 use bits::svq3::CodeAnswer;
 use bits::svq3::read_universal_code;
 use bits::window::Window;
-use bits::window::fill;
 use bits::window::pass;
-use bits::window::short_code;
+use bits::window::window_at;
 use refusal::Refusal;
+use short_codes::chroma_dc;
+use short_codes::normal_scan;
 
 // The inter macroblock's two books.
 pub enum ResidualBook {
@@ -42,11 +44,6 @@ const NORMAL_SCAN_RUNS: u64 = 0x0987_6210_5430_2100;
 const CHROMA_DC_MAGNITUDES: u64 = 0x0000_2234_1123_1210;
 
 const CHROMA_DC_RUNS: u64 = 0x0000_3210_3210_1000;
-
-// Of the codes of at most seven bits, a byte each: magnitude in the lower digit, run in the upper.
-const NORMAL_SCAN_SHORT: u64 = 0x5141_3102_2111_0100;
-
-const CHROMA_DC_SHORT: u64 = 0x3121_1203_1102_0100;
 
 // The first code that is no entry of the tables.
 const NORMAL_SCAN_ESCAPE: u32 = 31;
@@ -144,25 +141,21 @@ fn read_level(bits: &[u8], at: usize, book: ResidualBook) -> Step
     }
 }
 
-pub struct ShortPair {
-    pub magnitude: u32,
-    pub run: u32,
+// What the look-up of a book says of seven bits, the first of them 0.
+fn entry_of(book: ResidualBook, bits: u64) -> u32
+    requires { ⌜ bits < 64 ⌝ }
+    ensures { λ r. ⌜ r ≡ getD (entries book) bits 0 ⌝ }
+{
+    match book {
+        ResidualBook::NormalScan => normal_scan(bits),
+        ResidualBook::ChromaDc => chroma_dc(bits),
+    }
 }
 
-// What both books' tables say at half of a code of at most seven bits.
-fn short_pair(book: ResidualBook, half: u32) -> ShortPair
-    requires { ⌜ half < 8 ⌝ }
-    ensures { λ r. ⌜ (r .magnitude ≡ getD (magnitudes book) half 0) × (r .run ≡ getD (runs book) half 0) × (r .magnitude < 8) ⌝ }
+fn entry_level(entry: u32) -> i32
+    ensures { λ r. ⌜ r ≡ entryLevel entry ⌝ }
 {
-    let pairs = match book {
-        ResidualBook::NormalScan => NORMAL_SCAN_SHORT,
-        ResidualBook::ChromaDc => CHROMA_DC_SHORT,
-    };
-    let pair = pairs >> (8 * half);
-    ShortPair {
-        magnitude: (pair % 8) as u32,
-        run: (pair / 16 % 8) as u32,
-    }
+    (entry / 65536) as i32 - 4
 }
 
 // A step, and the window of the bits behind it.
@@ -171,35 +164,54 @@ pub struct Taken {
     pub window: Window,
 }
 
-// The next code of a list: a code of at most seven bits is taken from the window, any other is read from the bytes.
+// The next code of a list, read from the bytes, with a window taken anew behind it.
+fn read_next(bits: &[u8], at: usize, book: ResidualBook) -> Taken
+    requires { ⌜ length (now bits) < 2 ^ 61 ⌝ }
+    ensures { λ r. ⌜ Stepped book (bitList (now (bits .entry))) at (r .step) (r .window .word) (r .window .left) ⌝ }
+{
+    match read_level(bits, at, book) {
+        Step::Level(level, run, next) => Taken {
+            step: Step::Level(level, run, next),
+            window: window_at(bits, next),
+        },
+        Step::End(next) => Taken {
+            step: Step::End(next),
+            window: Window { word: 0, left: 0 },
+        },
+        Step::Refused(r) => Taken {
+            step: Step::Refused(r),
+            window: Window { word: 0, left: 0 },
+        },
+    }
+}
+
+// The next code of a list: taken from the window where all of its bits are there and are at most seven, else read from the bytes.
 fn next_level(bits: &[u8], at: usize, book: ResidualBook, window: Window) -> Taken
     requires { ⌜ (length (now bits) < 2 ^ 61) × Shows (window .word) (window .left) (drop at (bitList (now bits))) ⌝ }
     ensures { λ r. ⌜ Stepped book (bitList (now (bits .entry))) at (r .step) (r .window .word) (r .window .left) ⌝ }
 {
-    let filled = fill(bits, at, window);
-    let short = short_code(filled);
-    let size = short.size;
-    let half = short.half;
-    if (1 < size) & (size < 9) {
-        let next = at + size as usize;
-        let pair = short_pair(book, half);
-        let level = level_of(2 * half + short.last - 1, pair.magnitude);
-        return Taken {
-            step: Step::Level(level, pair.run, next),
-            window: pass(filled, size),
-        };
+    let word = window.word;
+    let left = window.left;
+    if word < 0x8000_0000_0000_0000 {
+        let entry = entry_of(book, word >> 57);
+        let size = entry % 256;
+        if size <= left {
+            let next = at + size as usize;
+            return Taken {
+                step: Step::Level(entry_level(entry), entry / 256 % 256, next),
+                window: pass(window, size),
+            };
+        }
+    } else {
+        if 0 < left {
+            let next = at + 1;
+            return Taken {
+                step: Step::End(next),
+                window,
+            };
+        }
     }
-    if size == 1 {
-        return Taken {
-            step: Step::End(at + 1),
-            window: filled,
-        };
-    }
-    let step = read_level(bits, at, book);
-    Taken {
-        step,
-        window: Window { word: 0, left: 0 },
-    }
+    read_next(bits, at, book)
 }
 
 fn clear_levels(out: &mut [i32], base: usize, count: usize)
@@ -241,8 +253,9 @@ fn decode_list(
     clear_list(out, base, book);
     let mut position = start;
     let mut p = at;
-    let mut word: u64 = 0;
-    let mut left: u32 = 0;
+    let first = window_at(bits, at);
+    let mut word = first.word;
+    let mut left = first.left;
     loop {
         let taken = next_level(bits, p, book, Window { word, left });
         let step = taken.step;

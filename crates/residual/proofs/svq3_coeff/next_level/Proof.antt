@@ -1,103 +1,70 @@
 -- `residual::svq3_coeff::next_level`: a short code is found in the window, any other is read.
-use mathlib.Core.Path.{ap, _∙_}
-use Prim.Native.Nat.{_<_}
+use mathlib.Core.Path.{_≡_, ap, sym, _∙_}
+use Prim.Native.Nat.{_+_, _*_, _≤_}
 use native.Mathlib.Omega.{arith}
 use borrow.Author.Needs.{needs}
-use lib.ListN.{drop}
+use lib.ListN.{length, drop}
+use mir.Facts.{toZ-ofZ}
+use Rattle.refusal.specs.Got.{got}
 use Rattle.bits.specs.Bits.{bitList}
-use Rattle.bits.specs.Window.{ShortAt}
-use Rattle.bits.proofs.CodeStarts.{inside}
-use Rattle.residual.specs.Book.{levelOf}
-use Rattle.residual.proofs.Shorts.{between, read-stepped, end-stepped, level-stepped}
+use Rattle.residual.specs.Short.{entrySize}
+use Rattle.residual.specs.Levels.{levelRun, stepAnswer}
+use Rattle.residual.specs.declared.svq3_coeff.LevelRun.the-variants.{End}
+use Rattle.residual.proofs.Shorts.{one-found, size-few, size-some, level-found, entry-stepped, end-stepped, inside}
 use Rattle.residual.proofs.svq3_coeff.next_level.Statement.{statement}
 use Rattle.residual.proofs.svq3_coeff.next_level.Tie as tie
 
--- what the window says of the code at the place
-abbrev Short : tie.After-short-code → Type 0
-Short c =
-    let a = c .before .before .before .args in
-    let r = c .short-code .result in
-    ShortAt (drop (a .at) (bitList (a .bits .now))) (r .size) (r .half) (r .last)
-
-short : (c : tie.After-short-code) → Short c
-short c = let a = c .before .before .before .args in c .short-code .ensures .0 (drop (a .at) (bitList (a .bits .now))) (c .before .fill .ensures)
-
--- the code is neither 0 nor longer
-sized : (c : tie.Then1) → (1 < c .before .short-code .result .size) × (c .before .short-code .result .size < 9)
-sized c = between (c .before .short-code .result .size) (c .if1 .taken)
-
-add-next : tie.Need-add-next
-add-next c =
-    let a = c .before .before .before .before .args in
-    let r = c .before .short-code .result in
-    omega (arith, inside (a .bits .now) (a .at) (r .size) (r .half) (r .last) (short (c .before)) (sized c .1))
-
-short-pair-requires : tie.Need-short-pair-requires
-short-pair-requires c κs = short (c .before) .small
-
-mul-level-of : tie.Need-mul-level-of
-mul-level-of c = omega (arith, short (c .before .before) .small)
-
-add-level-of : tie.Need-add-level-of
-add-level-of c = let h = short (c .before .before .before) in omega (arith, h .small, h .bit)
-
-sub-level-of : tie.Need-sub-level-of
-sub-level-of c = let h = sized (c .before .before) in omega (arith, short (c .before .before .before) .other-code (h .0) (h .1) .0)
-
-level-of-requires : tie.Need-level-of-requires
-level-of-requires c κs = omega (arith, c .before .short-pair .ensures .2)
+-- the code's bits are there
+there : (c : tie.Then2) → c .before .before .before .before .args .at + entrySize (c .before .entry-of .result) ≤ 8 * length (c .before .before .before .before .args .bits .now)
+there c =
+    let s = c .before .before .before .before in
+    let a = s .args in
+    let b = bitList (a .bits .now) in
+    let w = a .window in
+    let e = c .before .entry-of in
+    let low = c .before .before .if1 .taken in
+    inside (a .book) (a .bits .now) (a .at) _ _ (level-found (a .book) b (a .at) (w .word) (w .left) (s .pre .1) (e .result) low (e .ensures) (c .if2 .taken)) (size-some (a .book) b (a .at) (w .word) (w .left) (s .pre .1) (e .result) low (e .ensures) (c .if2 .taken))
 
 pass-requires : tie.Need-pass-requires
 pass-requires c κs =
-    let h = sized (c .before .before .before) in
-    (c .before .before .before .before .short-code .ensures .1 (h .1), omega (arith, h .1))
+    let s = c .before .before .before .before .before in
+    let a = s .args in
+    let e = c .before .before .entry-of in
+    let t = c .before .if2 .taken in
+    (t, omega (arith, size-few (a .book) (bitList (a .bits .now)) (a .at) (a .window .word) (a .window .left) (s .pre .1) (e .result) (c .before .before .before .if1 .taken) (e .ensures) t))
 
 returns : tie.Need-returns
 returns c =
-    let t = c .before .before .before .before in
-    let d = t .before in
-    let a = d .before .before .before .args in
-    let r = d .short-code .result in
-    let h = sized t in
-    let p = c .before .before .before .short-pair in
-    let l = c .before .level-of in
-    level-stepped (a .book) (bitList (a .bits .now)) (a .at) (r .size) (r .half) (r .last) (short d) _ _ (h .0) (h .1) (l .result) (p .result .run) (l .ok) (l .ensures ∙ ap (levelOf _) (p .ensures .0)) (p .ensures .1) (c .pass .ensures (drop (a .at) (bitList (a .bits .now))) (d .before .fill .ensures))
+    let s = c .before .before .before .before .before .before in
+    let a = s .args in
+    let b = bitList (a .bits .now) in
+    let e = c .before .before .before .entry-of in
+    let l = c .before .entry-level in
+    entry-stepped (a .book) b (a .at) (a .window .word) (a .window .left) (s .pre .1) (e .result) (c .before .before .before .before .if1 .taken) (e .ensures) (c .before .before .if2 .taken) _ _ _ (toZ-ofZ (record { sfits = l .ok }) ∙ l .ensures) (c .pass .ensures (drop (a .at) b) (s .pre .1))
 
-add-t22 : tie.Need-add-t22
-add-t22 c =
-    let d = c .before .before in
-    let a = d .before .before .before .args in
-    let r = d .short-code .result in
-    omega (arith, c .if2 .taken, inside (a .bits .now) (a .at) (r .size) (r .half) (r .last) (short d) (omega (arith, c .if2 .taken)))
+-- the code 0
+ended : (c : tie.Then3) → levelRun (c .before .before .before .args .book) (drop (c .before .before .before .args .at) (bitList (c .before .before .before .args .bits .now))) ≡ got End 1
+ended c =
+    let s = c .before .before .before in
+    let a = s .args in
+    one-found (a .book) (bitList (a .bits .now)) (a .at) (a .window .word) (a .window .left) (s .pre .1) (c .if3 .taken) (c .before .if1 .left) (omega arith)
 
 returns-2 : tie.Need-returns-2
 returns-2 c =
-    let d = c .before .before in
-    let a = d .before .before .before .args in
-    let r = d .short-code .result in
-    end-stepped (a .book) (bitList (a .bits .now)) (a .at) (r .size) (r .half) (r .last) (short d) _ _ (c .if2 .taken)
-
-returns-3 : tie.Need-returns-3
-returns-3 c =
-    let a = c .before .before .before .before .before .before .args in
-    read-stepped (a .book) (bitList (a .bits .now)) (a .at) (c .read-level .result) (c .read-level .ensures)
+    let a = c .before .before .before .args in
+    end-stepped (a .book) (bitList (a .bits .now)) (a .at) _ _ _ (ap (stepAnswer (a .at)) (sym (ended c)))
 
 pub next-level-spec : {M : Type 1} → statement M
 next-level-spec =
     tie.close
     (tie.spec
-    (λ c κs. search needs)
-    (λ c κs. search needs)
+    (λ c κs. omega arith)
     (λ c. search needs)
-    add-next
-    short-pair-requires
-    mul-level-of
-    add-level-of
-    sub-level-of
-    level-of-requires
+    (λ c. omega (arith, there c, c .before .before .before .before .pre .0))
+    (λ c κs. search needs)
     pass-requires
     returns
-    add-t22
+    (λ c. let s = c .before .before .before in omega (arith, inside (s .args .book) (s .args .bits .now) (s .args .at) _ _ (ended c) (omega arith), s .pre .0))
     returns-2
     (λ c κs. search needs)
-    returns-3)
+    (λ c. c .read-next .ensures))
