@@ -3,12 +3,14 @@
 ghost use mathlib.Core.Path.{_≡_};
 ghost use mathlib.Core.Bool.{true};
 ghost use Prim.Native.Nat.{ℕ, _+_, _*_, _≤_, _<_};
+ghost use lib.Dec.{eqb};
 ghost use lib.IntN.{pos};
 ghost use lib.ListN.{length, getD};
+ghost use Rattle.ints.specs.Z.{if_then_else_};
 ghost use Rattle.picture.specs.Painted.{Inside};
 ghost use Rattle.picture.specs.Picture.{Within};
 ghost use Rattle.picture.specs.Rows.{row};
-ghost use Rattle.predict.specs.Predict.{Field, fieldOf, cellAt, aboveLeftOf, predictor};
+ghost use Rattle.predict.specs.Predict.{Field, fieldOf, vector, cellAt, aboveLeftOf, combined, predictor};
 ghost use Rattle.predict.specs.Stored.{storedVectors, storedMarks};
 ghost use Rattle.predict.specs.Window.{Window, Seen, Part};
 use crate::svq3_frame::Near;
@@ -16,7 +18,7 @@ use crate::svq3_frame::Sixths;
 use crate::svq3_frame::Vector;
 use crate::svq3_frame::combined;
 use crate::svq3_frame::held_in;
-use crate::svq3_frame::or_else;
+use crate::svq3_frame::median_of;
 use crate::svq3_frame::store_cells;
 
 // The cell above and to the left of (x, y), as cell k of the window; marked 0 off the picture.
@@ -171,6 +173,42 @@ fn mv_block(near: &[i32; 60], marked: &[u8; 30], i: usize) -> Near
     })
 }
 
+// The numbers of cell i, whatever its mark.
+fn vector_at(near: &[i32; 60], i: usize) -> Vector
+    requires { ⌜ i < 30 ⌝ }
+    ensures { λ r. ⌜ r ≡ vector (getD (now (near .entry)) (2 * i) (pos 0)) (getD (now (near .entry)) (2 * i + 1) (pos 0)) ⌝ }
+{
+    let x = near[2 * i];
+    let y = near[2 * i + 1];
+    Vector {
+        x: Sixths(x),
+        y: Sixths(y),
+    }
+}
+
+// Cell c, or d where c is marked 0.
+fn marked_or(marked: &[u8; 30], c: usize, d: usize) -> usize
+    requires { ⌜ (c < 30) × (d < 30) ⌝ }
+    ensures { λ r. ⌜ (r < 30) × (r ≡ (if eqb (getD (now (marked .entry)) c 0) 0 then d else c)) ⌝ }
+{
+    if marked[c] == 0 { d } else { c }
+}
+
+// The prediction from the cells a, b and c. Most often none is missing.
+fn predicted(near: &[i32; 60], marked: &[u8; 30], a: usize, b: usize, c: usize) -> Vector
+    requires { ⌜ (a < 30) × (b < 30) × (c < 30) ⌝ }
+    ensures { λ r. ⌜ r ≡ combined (cellAt (now (near .entry)) (now (marked .entry)) a) (cellAt (now (near .entry)) (now (marked .entry)) b) (cellAt (now (near .entry)) (now (marked .entry)) c) ⌝ }
+{
+    if (marked[a] == 0) | (marked[b] == 0) | (marked[c] == 0) {
+        return combined(
+            mv_block(near, marked, a),
+            mv_block(near, marked, b),
+            mv_block(near, marked, c),
+        );
+    }
+    median_of(vector_at(near, a), vector_at(near, b), vector_at(near, c))
+}
+
 // The predictor of the partition of wide × high cells whose first cell is (cx, cy) of its macroblock, in any field that the window shows.
 pub fn predict_mv(
     near: &[i32; 60],
@@ -188,13 +226,8 @@ pub fn predict_mv(
     ensures { λ r. ⌜ ((f : Field) → f .cols ≡ cols → f .rows ≡ rows → Seen f column row (now (near .entry)) (now (marked .entry)) → r ≡ predictor f (4 * column + cx) (4 * row + cy) wide high) ⌝ }
 {
     let d = cy * 6 + cx;
-    let a = mv_block(near, marked, d + 6);
-    let b = mv_block(near, marked, d + 1);
-    let c = or_else(
-        mv_block(near, marked, d + 1 + wide),
-        mv_block(near, marked, d),
-    );
-    let p = combined(a, b, c);
+    let c = marked_or(marked, d + 1 + wide, d);
+    let p = predicted(near, marked, d + 6, d + 1, c);
     let px = p.x;
     let py = p.y;
     Vector {
