@@ -203,7 +203,7 @@ fn fill_vectors_row(mv: &mut [i32], at: usize, n: usize, vx: i32, vy: i32)
 }
 
 // 1 at n cells, from cell `at` on.
-fn mark_row(marks: &mut [u8], at: usize, n: usize)
+pub fn mark_row(marks: &mut [u8], at: usize, n: usize)
     requires { ⌜ at + n ≤ length (now marks) ⌝ }
     ensures { λ _. ⌜ now (marks .exit) ≡ row (now (marks .entry)) at (always 1 0) n ⌝ }
 {

@@ -1,5 +1,5 @@
 -- `predict::svq3_frame::move_component` answers `storedPart` and `clippedPart`: the exact product of a small sum, and else what `move_held` answers.
-use mathlib.Core.Path.{_≡_, refl, sym, ap, ap₂, subst, _∙_}
+use mathlib.Core.Path.{_≡_, sym, ap, ap₂, subst, _∙_}
 use mathlib.Core.Bool.{false, _||_}
 use Prim.Native.Nat.{_^_, _<_}
 use lib.IntN.{ℤ, pos, negsuc, _+ℤ_, _*ℤ_}
@@ -11,7 +11,7 @@ use Rattle.ints.specs.Z.{satZ, overZ}
 use Rattle.ints.proofs.Fits.{read, signed, back}
 use Rattle.predict.specs.Units.{summed, scaled, storedScale, storedPart, clippedPart}
 use Rattle.predict.proofs.Tests.{neither}
-use Rattle.predict.proofs.Moves.{field-read, sum-wide, small-sum, small-product, small-stored}
+use Rattle.predict.proofs.Moves.{sum-wide, small-sum, small-product, small-stored}
 use Rattle.predict.proofs.svq3_frame.move_component.Statement.{statement}
 use Rattle.predict.proofs.svq3_frame.move_component.Tie as tie
 

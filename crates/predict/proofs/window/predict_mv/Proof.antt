@@ -1,6 +1,6 @@
 -- `predict::window::predict_mv` answers `predictor` of every field that the window shows.
 use mathlib.Core.Path.{sym, ap, _∙_}
-use Prim.Native.Nat.{ℕ, _+_, _*_}
+use Prim.Native.Nat.{_+_, _*_}
 use native.Mathlib.Omega.{arith}
 use borrow.Author.Needs.{needs}
 use Rattle.predict.specs.Predict.{vector, cellAt, combined, heldIn, predictor}
