@@ -22,7 +22,7 @@ returns c f ec er seen =
     let third-cell = ap (cellAt mv marks) (o .marked-or .ensures .1) ∙ third mv marks (d + 1 + a .wide) d in
     let p = k .predicted .ensures
     ∙ (λ i. combined (cellAt mv marks (d + 6)) (cellAt mv marks (d + 1)) (third-cell i))
-    ∙ seen-predicted seen (a .cx) (a .cy) (a .wide) (s .pre .1 .across) (omega arith) in
+    ∙ seen-predicted (s .pre .1) seen in
     let x = c .before .held-in .ensures ∙ λ i. heldIn (16 * sym ec i) (4 * (4 * a .column + a .cx)) (4 * a .wide) (p i .x .0) in
     let y = c .held-in2 .ensures ∙ λ i. heldIn (16 * sym er i) (4 * (4 * a .row + a .cy)) (4 * a .high) (p i .y .0) in
     λ i. vector (x i) (y i)
