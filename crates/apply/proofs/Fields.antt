@@ -1,52 +1,46 @@
--- Vectors and marks, partition after partition.
+-- Vectors and marks: of the cells of a row, and of a record.
 -- Assumes nothing.
 use mathlib.Core.Path.{_≡_, refl, ap, _∙_}
 use mathlib.Core.Logic.{_≢_}
 use mathlib.Core.List.{List}
-use Prim.Native.Nat.{ℕ, _+_, _*_, _≤_, _<_}
-use native.Mathlib.Numerals.{add-one}
+use Prim.Native.Nat.{ℕ, _+_, _*_, _/_, _%_, _^_}
+use native.Mathlib.Nat.{add-assoc}
+use native.Mathlib.Omega.{arith}
 use lib.IntN.{ℤ, pos}
+use lib.ListN.{set}
 use borrow.Author.Tests.{eq-eqb, ne-eqb}
 use Rattle.ints.specs.Z.{if_then_else_}
-use Rattle.picture.specs.Painted.{Inside}
-use Rattle.picture.specs.Picture.{cellCount, Within}
+use Rattle.picture.specs.Rows.{row, rows}
+use Rattle.picture.proofs.Laws.{row-more, rows-more}
 use Rattle.vectors.specs.Modes.{numMotionVectors}
 use Rattle.predict.specs.Predict.{Field, fieldOf}
 use Rattle.predict.specs.Stored.{storedVectors, storedMarks, storedField}
-use Rattle.predict.proofs.Following.{part-of, partition-cells}
-use Rattle.questions.specs.declared.Call.{Call}
 use Rattle.record.specs.Record.{Record, skipRecord}
-use Rattle.reading.specs.Read.{cellX, cellY, cellsWide, cellsHigh, storedAt}
 use Rattle.reading.specs.Bits.{callOf}
 use Rattle.moving.specs.Moved.{vectorX, vectorY}
 use Rattle.apply.specs.Apply.{storedUpTo, appliedField}
+use Rattle.apply.specs.Cells.{ownNumber}
 
--- where a partition lies, in cells
-pub record Cells (call : Call) (i x y w h : ℕ) : Type 0 where
-  pub x-is : x ≡ cellX call i
-  pub y-is : y ≡ cellY call i
-  pub w-is : w ≡ cellsWide call
-  pub h-is : h ≡ cellsHigh call
+-- ---- a turn of the loop over the cells of a row, and of the one over rows: a row begins at twice its first cell
+pub own-more : {l : List ℤ} (l₀ vs : List ℤ) (at four c : ℕ) {vx vy : ℤ} → l ≡ row l₀ at (ownNumber vs four) (2 * c) → vx ≡ vectorX vs (four / 2 ^ (4 * c) % 16) → vy ≡ vectorY vs (four / 2 ^ (4 * c) % 16)
+    → set (set l (at + 2 * c) vx) (at + 2 * c + 1) vy ≡ row l₀ at (ownNumber vs four) (2 * (c + 1))
+unfolding ownNumber
+own-more l₀ vs at four c e ex ey =
+    let h₀ : 2 * c / 2 ≡ c = omega arith in
+    let m₀ : 2 * c % 2 ≡ 0 = omega arith in
+    let z : 2 * (four / 2 ^ (4 * c) % 16) + 0 ≡ 2 * (four / 2 ^ (4 * c) % 16) = omega arith in
+    let h₁ : (2 * c + 1) / 2 ≡ c = omega arith in
+    let m₁ : (2 * c + 1) % 2 ≡ 1 = omega arith in
+    let one = row-more l₀ at (ownNumber vs four) (2 * c) e (ex ∙ rw (h₀, m₀, z) refl) in
+    let two = row-more l₀ at (ownNumber vs four) (2 * c + 1) one (ey ∙ rw (h₁, m₁) refl) in
+    let n : 2 * c + 1 + 1 ≡ 2 * (c + 1) = omega arith in
+    rw (add-assoc at (2 * c) 1) (two ∙ ap (row l₀ at (ownNumber vs four)) n)
 
-module _ {call : Call} {i x y w h : ℕ} (p : Cells call i x y w h) (cols rows : ℕ) where
-  -- in the picture
-  pub cells-inside : {size : ℕ} → Within cols rows (call .column) (call .row) → call .mode ≤ 7 → i < numMotionVectors (call .mode) → size ≡ cellCount cols rows → Inside (4 * cols) x y w h size
-  cells-inside g m l e = rw (p .x-is, p .y-is, p .w-is, p .h-is) (partition-cells g _ _ (part-of (call .mode) i m l) e)
-
-  -- its vector stored there
-  pub cells-stored : (mv : List ℤ) (marks : List ℕ) {mv′ : List ℤ} {marks′ : List ℕ} {vx vy : ℤ} (zx zy : ℤ) → mv′ ≡ storedVectors mv (4 * cols) x y w h vx vy → marks′ ≡ storedMarks marks (4 * cols) x y w h
-      → vx ≡ zx → vy ≡ zy → fieldOf cols rows mv′ marks′ ≡ storedAt call (fieldOf cols rows mv marks) i zx zy
-  unfolding storedAt storedField
-  cells-stored mv marks zx zy e f ex ey = rw (e, f, p .x-is, p .y-is, p .w-is, p .h-is, ex, ey)
-
--- none, and one partition more
-pub stored-none : (call : Call) (vs : List ℤ) (f : Field) → f ≡ storedUpTo 0 call vs f
-unfolding storedUpTo
-stored-none call vs f = refl
-
-pub stored-more : (n : ℕ) (call : Call) (vs : List ℤ) (f : Field) {g g′ : Field} → g ≡ storedUpTo n call vs f → g′ ≡ storedAt call g n (vectorX vs n) (vectorY vs n) → g′ ≡ storedUpTo (n + 1) call vs f
-unfolding storedUpTo
-stored-more n call vs f e k = rw (add-one n) (k ∙ ap (λ (g : Field). storedAt call g n (vectorX vs n) (vectorY vs n)) e)
+pub owns-more : {l l′ : List ℤ} (l₀ vs : List ℤ) (s x y whose r : ℕ) → l ≡ rows l₀ (2 * s) (2 * x) y (λ d. ownNumber vs (whose / 2 ^ (16 * d))) 8 r → l′ ≡ row l (2 * ((y + r) * s + x)) (ownNumber vs (whose / 2 ^ (16 * r))) 8
+    → l′ ≡ rows l₀ (2 * s) (2 * x) y (λ d. ownNumber vs (whose / 2 ^ (16 * d))) 8 (r + 1)
+owns-more {l} l₀ vs s x y whose r e f =
+    let p : 2 * ((y + r) * s + x) ≡ (y + r) * (2 * s) + 2 * x = omega arith in
+    rows-more l₀ (2 * s) (2 * x) y (λ d. ownNumber vs (whose / 2 ^ (16 * d))) 8 r e (f ∙ ap (λ k. row l k (ownNumber vs (whose / 2 ^ (16 * r))) 8) p)
 
 -- a skip, and any other mode
 pub skip-field : (r : Record) (f : Field) → r .head .mode ≡ 0 → appliedField r f ≡ storedField f (4 * r .head .column) (4 * r .head .row) 4 4 (pos 0) (pos 0)

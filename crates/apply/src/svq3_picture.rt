@@ -1,51 +1,54 @@
 // The vectors and the marks of a macroblock.
 ghost use mathlib.Core.Path.{_≡_};
 ghost use mathlib.Core.List.{List};
-ghost use Prim.Native.Nat.{_*_, _<_, _≤_};
+ghost use Prim.Native.Nat.{ℕ, _+_, _*_, _/_, _%_, _^_, _<_, _≤_};
 ghost use lib.IntN.{ℤ};
 ghost use lib.ListN.{length};
 ghost use Rattle.picture.specs.Picture.{cellCount, Within};
+ghost use Rattle.picture.specs.Rows.{row};
 ghost use Rattle.vectors.specs.Modes.{numMotionVectors};
 ghost use Rattle.predict.specs.Predict.{fieldOf};
 ghost use Rattle.record.specs.Record.{recordOf};
-ghost use Rattle.reading.specs.Read.{storedAt};
-ghost use Rattle.moving.specs.Moved.{vectorX, vectorY};
 ghost use Rattle.apply.specs.Apply.{storedUpTo, appliedField};
+ghost use Rattle.apply.specs.Cells.{ownerOf, ownNumber};
 use predict::svq3_frame::mark_macroblock;
-use predict::svq3_frame::store_partition_mv;
+use predict::svq3_frame::mark_row;
 use questions::Call;
 use record::Head;
-use vectors::svq3_mb::num_motion_vectors;
-use vectors::svq3_mb::partition_height;
-use vectors::svq3_mb::partition_offset_x;
-use vectors::svq3_mb::partition_offset_y;
-use vectors::svq3_mb::partition_width;
 
-// The vector of partition i, marked 1, in each of its cells.
-fn store_partition(
-    mv: &mut [i32],
-    marks: &mut [u8],
-    vectors: &[i32],
-    cols: usize,
-    rows: usize,
-    call: Call,
-    i: usize,
-)
-    requires { ⌜ Within cols rows (call .column) (call .row) × (call .mode ≤ 7) × (i < numMotionVectors (call .mode)) ⌝ }
-    requires { ⌜ (length (now mv) ≡ 2 * cellCount cols rows) × (length (now marks) ≡ cellCount cols rows) × (length (now vectors) ≡ 32) ⌝ }
-    ensures { λ _. ⌜ fieldOf cols rows (now (mv .exit)) (now (marks .exit)) ≡ storedAt call (fieldOf cols rows (now (mv .entry)) (now (marks .entry))) i (vectorX (now (vectors .entry)) i) (vectorY (now (vectors .entry)) i) ⌝ }
+// The partition of each cell of a macroblock, a hex digit each, by rows, the first the lowest.
+fn owners(mode: u32) -> u64
+    requires { ⌜ mode ≤ 7 ⌝ }
+    ensures { λ r. ⌜ ((c d : ℕ) → c < 4 → d < 4 → r / 2 ^ (16 * d) / 2 ^ (4 * c) % 16 ≡ ownerOf mode c d) ⌝ }
 {
-    let mode = call.mode;
-    let x = 4 * (call.column as usize) + partition_offset_x(mode, i) / 4;
-    let y = 4 * (call.row as usize) + partition_offset_y(mode, i) / 4;
-    let wide = partition_width(mode) / 4;
-    let high = partition_height(mode) / 4;
-    let vx = vectors[2 * i];
-    let vy = vectors[2 * i + 1];
-    store_partition_mv(mv, marks, cols, x, y, wide, high, vx, vy);
+    match mode {
+        2 => 0x1100_1100_1100_1100,
+        3 => 0x1111_1111_0000_0000,
+        4 => 0x3322_3322_1100_1100,
+        5 => 0x7654_7654_3210_3210,
+        6 => 0x7766_5544_3322_1100,
+        7 => 0xfedc_ba98_7654_3210,
+        _ => 0,
+    }
 }
 
-// Of all partitions.
+// The vectors of four cells, from number `at` on: the digits of `four` say whose.
+fn store_row(mv: &mut [i32], vectors: &[i32], at: usize, four: u64)
+    requires { ⌜ (at + 8 ≤ length (now mv)) × (length (now vectors) ≡ 32) ⌝ }
+    ensures { λ _. ⌜ now (mv .exit) ≡ row (now (mv .entry)) at (ownNumber (now (vectors .entry)) four) 8 ⌝ }
+{
+    let mut c = 0;
+    while c < 4 {
+        let i = ((four >> (4 * c)) % 16) as usize;
+        let vx = vectors[2 * i];
+        let vy = vectors[2 * i + 1];
+        mv[at + 2 * c] = vx;
+        mv[at + 2 * c + 1] = vy;
+        c += 1;
+    }
+}
+
+// The vectors of all partitions, marked 1, in each of their cells.
 fn store_partitions(
     mv: &mut [i32],
     marks: &mut [u8],
@@ -54,15 +57,21 @@ fn store_partitions(
     rows: usize,
     call: Call,
 )
-    requires { ⌜ Within cols rows (call .column) (call .row) × (call .mode ≤ 7) ⌝ }
+    requires { ⌜ Within cols rows (call .column) (call .row) × (call .mode ≤ 7) × (0 < call .mode) ⌝ }
     requires { ⌜ (length (now mv) ≡ 2 * cellCount cols rows) × (length (now marks) ≡ cellCount cols rows) × (length (now vectors) ≡ 32) ⌝ }
-    ensures { λ _. ⌜ fieldOf cols rows (now (mv .exit)) (now (marks .exit)) ≡ storedUpTo (numMotionVectors (call .mode)) call (now (vectors .entry)) (fieldOf cols rows (now (mv .entry)) (now (marks .entry))) ⌝ }
+    ensures { λ _. ⌜ now (mv .exit) ≡ storedUpTo (numMotionVectors (call .mode)) call (now (vectors .entry)) (fieldOf cols rows (now (mv .entry)) (now (marks .entry))) .mv ⌝ }
+    ensures { λ _. ⌜ now (marks .exit) ≡ storedUpTo (numMotionVectors (call .mode)) call (now (vectors .entry)) (fieldOf cols rows (now (mv .entry)) (now (marks .entry))) .marks ⌝ }
 {
-    let n = num_motion_vectors(call.mode);
-    let mut i = 0;
-    while i < n {
-        store_partition(mv, marks, vectors, cols, rows, call, i);
-        i += 1;
+    let stride = 4 * cols;
+    let x = 4 * (call.column as usize);
+    let y = 4 * (call.row as usize);
+    let whose = owners(call.mode);
+    let mut r = 0;
+    while r < 4 {
+        let at = (y + r) * stride + x;
+        store_row(mv, vectors, 2 * at, whose >> (16 * r));
+        mark_row(marks, at, 4);
+        r += 1;
     }
 }
 

@@ -7,3 +7,4 @@ pub mod Windows
 pub mod SignedCode
 pub mod Answers
 pub mod Examples
+pub mod Pairs

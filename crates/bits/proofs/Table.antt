@@ -1,7 +1,7 @@
 -- A rule at every number below a bound, proved by one test that antt computes.
 -- Assumes nothing.
 use mathlib.Core.Path.{_≡_, refl, subst, sym}
-use mathlib.Core.Bool.{Bool, true, false, _&&_}
+use mathlib.Core.Bool.{Bool, true, false, _&&_, _||_, true≢false}
 use Prim.Native.Nat.{ℕ, zero, suc, _<_}
 use native.Mathlib.Omega.{arith}
 use borrow.Author.Tests.{ltb-true, ltb-false}
@@ -14,6 +14,11 @@ both-left false b t = t
 pub both-right : (a b : Bool) → T (a && b) → T b
 both-right true b t = t
 both-right false b t = absurd t
+
+-- neither of two tests
+pub neither : (s t : Bool) → (s || t) ≡ false → (s ≡ false) × (t ≡ false)
+neither true t e = absurd (true≢false e)
+neither false t e = (refl, e)
 
 -- the test f passes at each number below n
 abbrev pub every : (ℕ → Bool) → ℕ → Bool

@@ -30,7 +30,7 @@ unfolding topBits
 shows-none w s = record { few = omega arith; rest = s; starts = refl }
 
 -- bits one after the other
-top-add : (k n w : ℕ) → topBits (k + n) w ≡ topBits k w ++ topBits n (w * 2 ^ k)
+pub top-add : (k n w : ℕ) → topBits (k + n) w ≡ topBits k w ++ topBits n (w * 2 ^ k)
 unfolding topBits
 top-add zero n w = let e : 0 + n ≡ n = omega arith in rw e (ap (topBits n) (sym (mul-one w)))
 top-add (suc k) n w =
@@ -39,7 +39,7 @@ top-add (suc k) n w =
     rw f (ap (λ (t : List Bool). odd (w / 2 ^ 63) ∷ t) (top-add k n (2 * w) ∙ ap (λ (x : ℕ). topBits k (2 * w) ++ topBits n x) e))
 
 -- ---- a byte at the top
-top-byte : (w : ℕ) → topBits 8 w ≡ byteBits (w / 2 ^ 56)
+pub top-byte : (w : ℕ) → topBits 8 w ≡ byteBits (w / 2 ^ 56)
 unfolding topBits
 top-byte w =
     let b : (m k : ℕ) → m ≡ k → eqb m 1 ≡ eqb k 1 = λ m k e. ap (λ (x : ℕ). eqb x 1) e in
@@ -88,7 +88,7 @@ passed w n k s h shown =
 
 -- ---- the 64 bits of eight bytes
 -- a byte in front
-shows-byte : (w n b v u : ℕ) (s t : List Bool) → n ≤ 56 → w ≡ b * 2 ^ 56 + v → u ≡ 256 * v → v < 2 ^ 56 → s ≡ byteBits b ++ t → Shows u n t → Shows w (8 + n) s
+pub shows-byte : (w n b v u : ℕ) (s t : List Bool) → n ≤ 56 → w ≡ b * 2 ^ 56 + v → u ≡ 256 * v → v < 2 ^ 56 → s ≡ byteBits b ++ t → Shows u n t → Shows w (8 + n) s
 shows-byte w n b v u s t q e d l f shown =
     let top : w / 2 ^ 56 ≡ b = omega arith in
     let below : w * 2 ^ 8 % 2 ^ 64 ≡ u % 2 ^ 64 = omega arith in
@@ -100,7 +100,7 @@ shows-byte w n b v u s t q e d l f shown =
           sym (ap (λ (x : List Bool). x ++ shown .rest) (top-add 8 n w ∙ ap₂ (λ x y. x ++ y) (top-byte w ∙ ap byteBits top) (top-mod n (w * 2 ^ 8) u below)));
     }
 
-byte-here : (s : List ℕ) (i : ℕ) → i < length s → drop (8 * i) (bitList s) ≡ byteBits (getD s i 0) ++ drop (8 * (i + 1)) (bitList s)
+pub byte-here : (s : List ℕ) (i : ℕ) → i < length s → drop (8 * i) (bitList s) ≡ byteBits (getD s i 0) ++ drop (8 * (i + 1)) (bitList s)
 unfolding bitList
 byte-here [] i h = absurd (omega arith)
 byte-here (x ∷ xs) zero h = refl

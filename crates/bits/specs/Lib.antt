@@ -3,3 +3,4 @@ pub mod Code
 pub mod Starts
 pub mod Window
 pub mod Signed
+pub mod Pair

@@ -1,11 +1,8 @@
 -- Two tests joined, taken apart, and two that agree.
 -- Assumes nothing.
 use mathlib.Core.Path.{_≡_, refl, sym}
-use mathlib.Core.Bool.{Bool, true, false, _||_, _&&_, true≢false}
-
-pub neither : (s t : Bool) → (s || t) ≡ false → (s ≡ false) × (t ≡ false)
-neither true t e = absurd (true≢false e)
-neither false t e = (refl, e)
+use mathlib.Core.Bool.{Bool, true, false, _&&_, true≢false}
+pub use Rattle.bits.proofs.Table.{neither}
 
 pub and-left : (s t : Bool) → (s && t) ≡ true → s ≡ true
 and-left true t e = refl

@@ -1,14 +1,15 @@
 -- Laws of the window: what a loaded cell shows, what the neighbours of a partition are in it, and that storing in it is storing in the field.
 -- Assumes nothing.
-use mathlib.Core.Path.{_≡_, refl, sym, ap, ap₂, _∙_}
+use mathlib.Core.Path.{_≡_, refl, sym, ap, ap₂, subst, _∙_}
 use mathlib.Core.Bool.{Bool, true, false, cond, _||_, _&&_, true≢false}
-use mathlib.Core.Logic.{_≢_}
+use mathlib.Core.Logic.{_≢_, _⊎_, inl, inr, ⊎-elim}
 use mathlib.Core.List.{List}
-use Prim.Native.Nat.{ℕ, zero, suc, _+_, _-_, _*_, _≤_, _<_}
-use native.Mathlib.Nat.{suc-mul, add-assoc, add-comm, add-zero}
+use Prim.Native.Nat.{ℕ, zero, suc, _+_, _-_, _*_, _/_, _%_, _≤_, _<_}
+use native.Mathlib.Nat.{suc-mul, add-assoc, add-comm, add-zero, div-add-mod', add-mod-right}
+use lib.Arith.{digits-mod}
 use native.Mathlib.Numerals.{sub-one, one-add}
 use native.Mathlib.Omega.{arith}
-use borrow.Author.Tests.{ne-eqb, eqb-false, ltb-true, ltb-false, lt-ltb, le-ltb}
+use borrow.Author.Tests.{ne-eqb, eqb-true, eqb-false, ltb-true, ltb-false, lt-ltb, le-ltb}
 use lib.Dec.{eqb, ltb}
 use lib.IntN.{ℤ, pos}
 use lib.ListN.{length, getD, set, length-set}
@@ -20,10 +21,11 @@ use Rattle.picture.specs.Picture.{Within}
 use Rattle.picture.specs.Rows.{row}
 use Rattle.picture.proofs.Laws.{row-length, row-same, row-other, within-true, within-in}
 use Rattle.predict.specs.Predict.{Field, fieldOf, vector, cellAt, nearAt, leftOf, aboveOf, aboveLeftOf, orElse, combined, predicted}
-use Rattle.predict.specs.Stored.{storedVectors, storedMarks, storedField}
+use Rattle.predict.specs.Stored.{storedField}
 use Rattle.predict.proofs.Tests.{neither, same-test}
-use Rattle.predict.proofs.Storing.{shown, vectors-length, marks-length, stored-cell, FieldSized, near-stored}
-use Rattle.predict.specs.Window.{Window, Seen, Part}
+use Rattle.predict.proofs.Storing.{shown, FieldSized, near-stored}
+use Rattle.predict.specs.Window.{Window, End, first, last, Sight, on-left, on-right, above, corner, Seen, Part, pairSet, cornerPairs, cornerMarks}
+use Rattle.predict.specs.declared.svq3_frame.Near.{Near}
 use Rattle.predict.specs.declared.svq3_frame.Near.the-variants.{Missing, Here}
 
 -- ---- off the picture, as the code tests it
@@ -156,31 +158,73 @@ unfolding aboveLeftOf aboveOf leftOf
 above-is f x zero = refl
 above-is f x (suc y) = refl
 
-module _ {f : Field} {column row : ℕ} {mv : List ℤ} {marks : List ℕ} (s : Seen f column row mv marks) where
-  pub seen-left : (c r : ℕ) → c < 6 → r < 4 → cellAt mv marks (r * 6 + c + 6) ≡ leftOf f (4 * column + c) (4 * row + r)
-  seen-left c r lc lr =
-      let i : r * 6 + c + 6 ≡ (r + 1) * 6 + c = omega arith in
-      let y : 4 * row + (r + 1) ≡ suc (4 * row + r) = omega arith in
-      ap (cellAt mv marks) i ∙ s .shows c (r + 1) lc (omega arith) ∙ ap (aboveLeftOf f (4 * column + c)) y ∙ left-is f (4 * column + c) (4 * row + r)
+-- what lies before a span ends one, and what lies behind it starts one
+before-end : (n k : ℕ) → 0 < n → 0 < k → k % n ≡ 0 → End n (k - 1)
+before-end n k z h e =
+    let q : k ≡ k / n * n = sym (div-add-mod' k n) ∙ omega (arith, e) in
+    let some : 0 < k / n = go (k / n) q in
+    let p : k - 1 ≡ (k / n - 1) * n + (n - 1) = less (k / n) some q in
+    last (ap (λ (i : ℕ). suc (i % n)) p ∙ ap suc (digits-mod (k / n - 1) {m = n} {r = n - 1} (omega arith)) ∙ omega arith)
+  where
+    go : (m : ℕ) → k ≡ m * n → 0 < m
+    go zero f = absurd (omega (arith, f))
+    go (suc m) f = omega arith
 
-  pub seen-above : (c r : ℕ) → c < 5 → r < 5 → cellAt mv marks (r * 6 + c + 1) ≡ aboveOf f (4 * column + c) (4 * row + r)
-  seen-above c r lc lr =
-      let i : r * 6 + c + 1 ≡ r * 6 + (c + 1) = omega arith in
+    less : (m : ℕ) → 0 < m → k ≡ m * n → k - 1 ≡ (m - 1) * n + (n - 1)
+    less zero l f = absurd (omega arith)
+    less (suc m) l f = let g : suc m - 1 ≡ m = omega arith in rw g (omega (arith, f, suc-mul m n))
+
+next-end : (n k : ℕ) → k % n ≡ 0 → End n (k + n)
+next-end n k e = first (add-mod-right k n ∙ e)
+
+module _ {f : Field} {column row cx cy wide high : ℕ} {mv : List ℤ} {marks : List ℕ} (p : Part cx cy wide high) (s : Seen wide high f column row mv marks) where
+  -- each neighbour is in sight
+  left-sight : Sight wide high cx (cy + 1)
+  left-sight = go cx refl
+    where
+      go : (x : ℕ) → cx ≡ x → Sight wide high x (cy + 1)
+      go zero e = on-left refl
+      go (suc x) e = let m : cy + 1 - 1 ≡ cy = omega arith in corner (before-end wide (suc x) (p .wide-some) (omega arith) (rw e at (p .left))) (first (ap (λ (k : ℕ). k % high) m ∙ p .top))
+
+  above-sight : (c : ℕ) → End wide (c - 1) → Sight wide high c cy
+  above-sight c e = go cy refl
+    where
+      go : (y : ℕ) → cy ≡ y → Sight wide high c y
+      go zero f = above refl
+      go (suc y) f = corner e (before-end high (suc y) (p .high-some) (omega arith) (rw f at (p .top)))
+
+  first-sight : Sight wide high (cx + 1) cy
+  first-sight = let m : cx + 1 - 1 ≡ cx = omega arith in above-sight (cx + 1) (first (ap (λ (k : ℕ). k % wide) m ∙ p .left))
+
+  third-sight : Sight wide high (cx + wide + 1) cy
+  third-sight = let m : cx + wide + 1 - 1 ≡ cx + wide = omega arith in above-sight (cx + wide + 1) (subst (End wide) (sym m) (next-end wide cx (p .left)))
+
+  fourth-sight : Sight wide high cx cy
+  fourth-sight = go cx refl
+    where
+      go : (x : ℕ) → cx ≡ x → Sight wide high x cy
+      go zero e = on-left refl
+      go (suc x) e = above-sight (suc x) (before-end wide (suc x) (p .wide-some) (omega arith) (rw e at (p .left)))
+
+  seen-above : (c : ℕ) → c < 5 → Sight wide high (c + 1) cy → cellAt mv marks (cy * 6 + c + 1) ≡ aboveOf f (4 * column + c) (4 * row + cy)
+  seen-above c lc t =
+      let i : cy * 6 + c + 1 ≡ cy * 6 + (c + 1) = omega arith in
       let x : 4 * column + (c + 1) ≡ suc (4 * column + c) = omega arith in
-      ap (cellAt mv marks) i ∙ s .shows (c + 1) r (omega arith) lr ∙ ap (λ n. aboveLeftOf f n (4 * row + r)) x ∙ above-is f (4 * column + c) (4 * row + r)
+      ap (cellAt mv marks) i ∙ s .shows (c + 1) cy (omega arith) (omega (arith, p .down)) t ∙ ap (λ n. aboveLeftOf f n (4 * row + cy)) x ∙ above-is f (4 * column + c) (4 * row + cy)
 
   -- THE PREDICTION from the window is that of the field
-  pub seen-predicted : (cx cy wide : ℕ) → cx + wide ≤ 4 → cy < 4
-      → combined (cellAt mv marks (cy * 6 + cx + 6)) (cellAt mv marks (cy * 6 + cx + 1)) (orElse (cellAt mv marks (cy * 6 + cx + 1 + wide)) (cellAt mv marks (cy * 6 + cx)))
+  pub seen-predicted : combined (cellAt mv marks (cy * 6 + cx + 6)) (cellAt mv marks (cy * 6 + cx + 1)) (orElse (cellAt mv marks (cy * 6 + cx + 1 + wide)) (cellAt mv marks (cy * 6 + cx)))
       ≡ predicted f (4 * column + cx) (4 * row + cy) wide
   unfolding predicted
-  seen-predicted cx cy wide lx ly =
-      let a = seen-left cx cy (omega arith) ly in
-      let b = seen-above cx cy (omega arith) (omega arith) in
+  seen-predicted =
+      let j : cy * 6 + cx + 6 ≡ (cy + 1) * 6 + cx = omega arith in
+      let y : 4 * row + (cy + 1) ≡ suc (4 * row + cy) = omega arith in
+      let a = ap (cellAt mv marks) j ∙ s .shows cx (cy + 1) (omega (arith, p .across)) (omega (arith, p .down, p .high-some)) left-sight ∙ ap (aboveLeftOf f (4 * column + cx)) y ∙ left-is f (4 * column + cx) (4 * row + cy) in
+      let b = seen-above cx (omega (arith, p .across)) first-sight in
       let i : cy * 6 + cx + 1 + wide ≡ cy * 6 + (cx + wide) + 1 = omega arith in
       let x : 4 * column + (cx + wide) ≡ 4 * column + cx + wide = omega arith in
-      let c = ap (cellAt mv marks) i ∙ seen-above (cx + wide) cy (omega arith) (omega arith) ∙ ap (λ n. aboveOf f n (4 * row + cy)) x in
-      let d = s .shows cx cy (omega arith) (omega arith) in
+      let c = ap (cellAt mv marks) i ∙ seen-above (cx + wide) (omega (arith, p .across)) third-sight ∙ ap (λ n. aboveOf f n (4 * row + cy)) x in
+      let d = s .shows cx cy (omega (arith, p .across)) (omega (arith, p .down)) fourth-sight in
       λ n. combined (a n) (b n) (orElse (c n) (d n))
 
 -- ---- storing in the window is storing in the field
@@ -210,16 +254,176 @@ module _ (f : Field) (x y w h : ℕ) (vx vy : ℤ) (s : FieldSized f) (lx : x + 
   corner-stored zero (suc r) = rw (within-none x w)
   corner-stored (suc c) (suc r) = rw (within-more x w c, within-more y h r) (near-stored f x y w h vx vy s lx ly c r)
 
+-- ---- cells made a vector, marked 1
+module _ (vx vy : ℤ) where
+  made : (mv : List ℤ) (marks : List ℕ) (k : ℕ) → k < length marks → 2 * k + 1 < length mv → cellAt (pairSet mv k vx vy) (set marks k 1) k ≡ Here (vector vx vy)
+  unfolding if_then_else_
+  made mv marks k h l = loaded mv marks k 1 vx vy h l
+
+  -- a cell that has it keeps it
+  kept : (mv : List ℤ) (marks : List ℕ) (k i : ℕ) → k < length marks → 2 * k + 1 < length mv → cellAt mv marks i ≡ Here (vector vx vy) → cellAt (pairSet mv k vx vy) (set marks k 1) i ≡ Here (vector vx vy)
+  kept mv marks k i h l e = go (eqb i k) refl
+    where
+      go : (t : Bool) → eqb i k ≡ t → cellAt (pairSet mv k vx vy) (set marks k 1) i ≡ Here (vector vx vy)
+      go true q = rw (eqb-true i k q) (made mv marks k h l)
+      go false q = loaded-other mv marks k 1 vx vy i (eqb-false i k q) ∙ e
+
+-- four of them
+module _ (mv : List ℤ) (marks : List ℕ) (k across down : ℕ) (vx vy : ℤ) (w : Window mv marks) (fits : k + across + down < 30) where
+  abbrev mv₁ : List ℤ
+  mv₁ = pairSet mv k vx vy
+
+  abbrev mv₂ : List ℤ
+  mv₂ = pairSet mv₁ (k + across) vx vy
+
+  abbrev mv₃ : List ℤ
+  mv₃ = pairSet mv₂ (k + down) vx vy
+
+  abbrev marks₁ : List ℕ
+  marks₁ = set marks k 1
+
+  abbrev marks₂ : List ℕ
+  marks₂ = set marks₁ (k + across) 1
+
+  abbrev marks₃ : List ℕ
+  marks₃ = set marks₂ (k + down) 1
+
+  numbers₁ : length mv₁ ≡ 60
+  numbers₁ = simp length-set (w .numbers)
+
+  numbers₂ : length mv₂ ≡ 60
+  numbers₂ = simp length-set (w .numbers)
+
+  numbers₃ : length mv₃ ≡ 60
+  numbers₃ = simp length-set (w .numbers)
+
+  cells₁ : length marks₁ ≡ 30
+  cells₁ = simp length-set (w .cells)
+
+  cells₂ : length marks₂ ≡ 30
+  cells₂ = simp length-set (w .cells)
+
+  cells₃ : length marks₃ ≡ 30
+  cells₃ = simp length-set (w .cells)
+
+  corners-window : Window (cornerPairs mv k across down vx vy) (cornerMarks marks k across down)
+  corners-window = record { numbers = simp length-set (w .numbers); cells = simp length-set (w .cells) }
+
+  abbrev corner-cell : ℕ → Near
+  corner-cell i = cellAt (cornerPairs mv k across down vx vy) (cornerMarks marks k across down) i
+
+  corners-other : (i : ℕ) → i ≢ k → i ≢ k + across → i ≢ k + down → i ≢ k + across + down → corner-cell i ≡ cellAt mv marks i
+  corners-other i a b c d =
+      loaded-other mv₃ marks₃ (k + across + down) 1 vx vy i d ∙ loaded-other mv₂ marks₂ (k + down) 1 vx vy i c ∙ loaded-other mv₁ marks₁ (k + across) 1 vx vy i b ∙ loaded-other mv marks k 1 vx vy i a
+
+  corners-here : (i : ℕ) → (i ≡ k) ⊎ ((i ≡ k + across) ⊎ ((i ≡ k + down) ⊎ (i ≡ k + across + down))) → corner-cell i ≡ Here (vector vx vy)
+  corners-here i h = ⊎-elim (λ e. rw e (three k (two k (one k first-made)))) (⊎-elim (λ e. rw e (three (k + across) (two (k + across) second-made))) (⊎-elim (λ e. rw e (three (k + down) third-made)) (λ e. rw e fourth-made))) h
+    where
+      one : (j : ℕ) → cellAt mv₁ marks₁ j ≡ Here (vector vx vy) → cellAt mv₂ marks₂ j ≡ Here (vector vx vy)
+      one j = kept vx vy mv₁ marks₁ (k + across) j (omega (arith, cells₁)) (omega (arith, numbers₁))
+
+      two : (j : ℕ) → cellAt mv₂ marks₂ j ≡ Here (vector vx vy) → cellAt mv₃ marks₃ j ≡ Here (vector vx vy)
+      two j = kept vx vy mv₂ marks₂ (k + down) j (omega (arith, cells₂)) (omega (arith, numbers₂))
+
+      three : (j : ℕ) → cellAt mv₃ marks₃ j ≡ Here (vector vx vy) → corner-cell j ≡ Here (vector vx vy)
+      three j = kept vx vy mv₃ marks₃ (k + across + down) j (omega (arith, cells₃)) (omega (arith, numbers₃))
+
+      first-made : cellAt mv₁ marks₁ k ≡ Here (vector vx vy)
+      first-made = made vx vy mv marks k (omega (arith, w .cells)) (omega (arith, w .numbers))
+
+      second-made : cellAt mv₂ marks₂ (k + across) ≡ Here (vector vx vy)
+      second-made = made vx vy mv₁ marks₁ (k + across) (omega (arith, cells₁)) (omega (arith, numbers₁))
+
+      third-made : cellAt mv₃ marks₃ (k + down) ≡ Here (vector vx vy)
+      third-made = made vx vy mv₂ marks₂ (k + down) (omega (arith, cells₂)) (omega (arith, numbers₂))
+
+      fourth-made : corner-cell (k + across + down) ≡ Here (vector vx vy)
+      fourth-made = made vx vy mv₃ marks₃ (k + across + down) (omega (arith, cells₃)) (omega (arith, numbers₃))
+
+-- stored one after another
+pub corner-pairs-are : {a b c d : List ℤ} {x y vx vy : ℤ} (mv : List ℤ) (k across down : ℕ) → x ≡ vx → y ≡ vy → a ≡ pairSet mv k x y → b ≡ pairSet a (k + across) x y → c ≡ pairSet b (k + down) x y → d ≡ pairSet c (k + across + down) x y → d ≡ cornerPairs mv k across down vx vy
+corner-pairs-are mv k across down ex ey e f g h = rw (h, g, f, e, ex, ey)
+
+pub corner-marks-are : {a b c d : List ℕ} (marks : List ℕ) (k across down : ℕ) → a ≡ set marks k 1 → b ≡ set a (k + across) 1 → c ≡ set b (k + down) 1 → d ≡ set c (k + across + down) 1 → d ≡ cornerMarks marks k across down
+corner-marks-are marks k across down e f g h = rw (h, g, f, e)
+
+-- ---- a cell in sight that lies in a partition is a corner of it
+end-of : (n x k : ℕ) → x % n ≡ 0 → x ≤ k → k < x + n → End n k → (k ≡ x) ⊎ (suc k ≡ x + n)
+end-of n x k e l h t = go t
+  where
+    place : k ≡ x / n * n + (k - x)
+    place = omega (arith, div-add-mod' x n, e)
+
+    left : k % n ≡ k - x
+    left = ap (λ (i : ℕ). i % n) place ∙ digits-mod (x / n) {m = n} {r = k - x} (omega arith)
+
+    go : End n k → (k ≡ x) ⊎ (suc k ≡ x + n)
+    go (first f) = inl (omega (arith, left, f))
+    go (last f) = inr (omega (arith, left, f))
+
+module _ {cx cy wide high : ℕ} (p : Part cx cy wide high) (c r : ℕ) (lc : c < 6) where
+  abbrev start : ℕ
+  start = (cy + 1) * 6 + (cx + 1)
+
+  spot : within (cx + 1) wide c ≡ true → within (cy + 1) high r ≡ true → Sight wide high c r
+      → (r * 6 + c ≡ start) ⊎ ((r * 6 + c ≡ start + (wide - 1)) ⊎ ((r * 6 + c ≡ start + 6 * (high - 1)) ⊎ (r * 6 + c ≡ start + (wide - 1) + 6 * (high - 1))))
+  spot tx ty t = go t
+    where
+      bx : (cx + 1 ≤ c) × (c < cx + 1 + wide)
+      bx = within-true (cx + 1) wide c tx
+
+      by′ : (cy + 1 ≤ r) × (r < cy + 1 + high)
+      by′ = within-true (cy + 1) high r ty
+
+      at : (c - 1 ≡ cx) ⊎ (suc (c - 1) ≡ cx + wide) → (r - 1 ≡ cy) ⊎ (suc (r - 1) ≡ cy + high)
+          → (r * 6 + c ≡ start) ⊎ ((r * 6 + c ≡ start + (wide - 1)) ⊎ ((r * 6 + c ≡ start + 6 * (high - 1)) ⊎ (r * 6 + c ≡ start + (wide - 1) + 6 * (high - 1))))
+      at (inl x) (inl y) = inl (omega (arith, bx, by′))
+      at (inr x) (inl y) = inr (inl (omega (arith, bx, by′, p .wide-some)))
+      at (inl x) (inr y) = inr (inr (inl (omega (arith, bx, by′, p .high-some))))
+      at (inr x) (inr y) = inr (inr (inr (omega (arith, bx, by′, p .wide-some, p .high-some))))
+
+      go : Sight wide high c r → (r * 6 + c ≡ start) ⊎ ((r * 6 + c ≡ start + (wide - 1)) ⊎ ((r * 6 + c ≡ start + 6 * (high - 1)) ⊎ (r * 6 + c ≡ start + (wide - 1) + 6 * (high - 1))))
+      go (on-left e) = absurd (omega (arith, bx))
+      go (on-right e) = absurd (omega (arith, bx, p .across))
+      go (above e) = absurd (omega (arith, by′))
+      go (corner ex ey) = at (end-of wide cx (c - 1) (p .left) (omega (arith, bx)) (omega (arith, bx)) ex) (end-of high cy (r - 1) (p .top) (omega (arith, by′)) (omega (arith, by′)) ey)
+
+  -- and one outside it is none
+  elsewhere : (within (cx + 1) wide c ≡ true → within (cy + 1) high r ≡ true → ⊥) → (dx dy : ℕ) → dx < wide → dy < high → r * 6 + c ≢ start + dx + 6 * dy
+  elsewhere o dx dy lx ly q =
+      let x : c ≡ cx + 1 + dx = omega (arith, p .across) in
+      let y : r ≡ cy + 1 + dy = omega (arith, p .across) in
+      o (within-in (cx + 1) wide c (omega arith) (omega arith)) (within-in (cy + 1) high r (omega arith) (omega arith))
+
 -- THE WINDOW after a partition was stored in it shows the field after the partition was stored there
-pub seen-stored : {f : Field} {column row cx cy wide high : ℕ} {mv : List ℤ} {marks : List ℕ} (vx vy : ℤ) → FieldSized f → Within (f .cols) (f .rows) column row → Part cx cy wide high → Seen f column row mv marks
-    → Seen (storedField f (4 * column + cx) (4 * row + cy) wide high vx vy) column row (storedVectors mv 6 (cx + 1) (cy + 1) wide high vx vy) (storedMarks marks 6 (cx + 1) (cy + 1) wide high)
-seen-stored {f} {column} {row} {cx} {cy} {wide} {high} {mv} {marks} vx vy s g p e = record {
-  window = record { numbers = vectors-length mv 6 (cx + 1) (cy + 1) wide high vx vy ∙ e .window .numbers; cells = marks-length marks 6 (cx + 1) (cy + 1) wide high ∙ e .window .cells };
-  shows = λ c r lc lr.
-      let w = e .window in
-      let near = stored-cell 6 (cx + 1) (cy + 1) wide high r c lc vx vy mv marks (omega arith) (omega arith) in
-      let far = corner-stored f (4 * column + cx) (4 * row + cy) wide high vx vy s (omega (arith, g .across, p .across)) (omega (arith, g .down, p .down)) (4 * column + c) (4 * row + r) in
-      let bx = ap (λ n. within n wide (4 * column + c)) (add-assoc (4 * column) cx 1) ∙ within-shift (4 * column) (cx + 1) wide c in
-      let by′ = ap (λ n. within n high (4 * row + r)) (add-assoc (4 * row) cy 1) ∙ within-shift (4 * row) (cy + 1) high r in
-      near ∙ sym (far ∙ λ i. cond (bx i && by′ i) (Here (vector vx vy)) (sym (e .shows c r lc lr) i));
-}
+pub seen-stored : {f : Field} {column row cx cy wide high : ℕ} {mv : List ℤ} {marks : List ℕ} (vx vy : ℤ) → FieldSized f → Within (f .cols) (f .rows) column row → Part cx cy wide high → Seen wide high f column row mv marks
+    → Seen wide high (storedField f (4 * column + cx) (4 * row + cy) wide high vx vy) column row (cornerPairs mv ((cy + 1) * 6 + (cx + 1)) (wide - 1) (6 * (high - 1)) vx vy) (cornerMarks marks ((cy + 1) * 6 + (cx + 1)) (wide - 1) (6 * (high - 1)))
+seen-stored {f} {column} {row} {cx} {cy} {wide} {high} {mv} {marks} vx vy s g p e = record { window = corners-window mv marks k (wide - 1) (6 * (high - 1)) vx vy (e .window) fits; shows = λ c r lc lr t. near c r lc lr t (within (cx + 1) wide c) refl (within (cy + 1) high r) refl ∙ sym (far c r) }
+  where
+    k : ℕ
+    k = (cy + 1) * 6 + (cx + 1)
+
+    fits : k + (wide - 1) + 6 * (high - 1) < 30
+    fits = omega (arith, p .across, p .down, p .wide-some, p .high-some)
+
+    far : (c r : ℕ) → aboveLeftOf (storedField f (4 * column + cx) (4 * row + cy) wide high vx vy) (4 * column + c) (4 * row + r) ≡ cond (within (cx + 1) wide c && within (cy + 1) high r) (Here (vector vx vy)) (aboveLeftOf f (4 * column + c) (4 * row + r))
+    far c r =
+        let bx = ap (λ n. within n wide (4 * column + c)) (add-assoc (4 * column) cx 1) ∙ within-shift (4 * column) (cx + 1) wide c in
+        let by′ = ap (λ n. within n high (4 * row + r)) (add-assoc (4 * row) cy 1) ∙ within-shift (4 * row) (cy + 1) high r in
+        corner-stored f (4 * column + cx) (4 * row + cy) wide high vx vy s (omega (arith, g .across, p .across)) (omega (arith, g .down, p .down)) (4 * column + c) (4 * row + r)
+        ∙ λ i. cond (bx i && by′ i) (Here (vector vx vy)) (aboveLeftOf f (4 * column + c) (4 * row + r))
+
+    -- outside the partition
+    same : (c r : ℕ) → c < 6 → r < 5 → Sight wide high c r → (within (cx + 1) wide c ≡ true → within (cy + 1) high r ≡ true → ⊥) → corner-cell mv marks k (wide - 1) (6 * (high - 1)) vx vy (e .window) fits (r * 6 + c) ≡ aboveLeftOf f (4 * column + c) (4 * row + r)
+    same c r lc lr t o =
+        let no : (dx dy : ℕ) → dx < wide → dy < high → r * 6 + c ≢ k + dx + 6 * dy = elsewhere p c r lc o in
+        let w = p .wide-some in
+        let h = p .high-some in
+        corners-other mv marks k (wide - 1) (6 * (high - 1)) vx vy (e .window) fits (r * 6 + c) (λ q. no 0 0 (omega arith) (omega arith) (omega (arith, q))) (λ q. no (wide - 1) 0 (omega arith) (omega arith) (omega (arith, q))) (λ q. no 0 (high - 1) (omega arith) (omega arith) (omega (arith, q))) (λ q. no (wide - 1) (high - 1) (omega arith) (omega arith) (omega (arith, q)))
+        ∙ e .shows c r lc lr t
+
+    near : (c r : ℕ) → c < 6 → r < 5 → Sight wide high c r → (u : Bool) → within (cx + 1) wide c ≡ u → (v : Bool) → within (cy + 1) high r ≡ v
+        → corner-cell mv marks k (wide - 1) (6 * (high - 1)) vx vy (e .window) fits (r * 6 + c) ≡ cond (within (cx + 1) wide c && within (cy + 1) high r) (Here (vector vx vy)) (aboveLeftOf f (4 * column + c) (4 * row + r))
+    near c r lc lr t true tx true ty = rw (tx, ty) (corners-here mv marks k (wide - 1) (6 * (high - 1)) vx vy (e .window) fits (r * 6 + c) (spot p c r lc tx ty t))
+    near c r lc lr t true tx false ty = rw (tx, ty) (same c r lc lr t (λ a b. true≢false (sym b ∙ ty)))
+    near c r lc lr t false tx v ty = rw tx (same c r lc lr t (λ a b. true≢false (sym a ∙ tx)))

@@ -1,14 +1,15 @@
 // A partition's vector: predicted from its neighbours, turned to the precision's unit, moved by a difference, and stored.
 ghost use mathlib.Core.Path.{_≡_};
+ghost use mathlib.Core.Bool.{_||_};
 ghost use Prim.Native.Nat.{_+_, _*_, _≤_};
-ghost use lib.IntN.{pos, natAbs, _*ℤ_};
+ghost use lib.IntN.{pos, natAbs, _+ℤ_, _*ℤ_};
 ghost use lib.ListN.{length};
-ghost use Rattle.ints.specs.Z.{satZ, overZ};
+ghost use Rattle.ints.specs.Z.{satZ, overZ, floorZ};
 ghost use Rattle.picture.specs.Painted.{Inside};
 ghost use Rattle.picture.specs.Picture.{always};
 ghost use Rattle.picture.specs.Rows.{row};
 ghost use Rattle.predict.specs.Predict.{orElse, vectorOf, present, medianOf, combined, heldIn};
-ghost use Rattle.predict.specs.Units.{roundToSixths, convertPredictor, storedScale, storedPart, clippedPart};
+ghost use Rattle.predict.specs.Units.{unitsInSample, convertPredictor, storedScale, storedPart, clippedPart};
 ghost use Rattle.predict.specs.Stored.{pairOf, storedVectors, storedMarks};
 use ints::clamp_i64;
 use ints::median3;
@@ -67,7 +68,7 @@ fn present(a: Near) -> u32
 }
 
 // The median of each component.
-fn median_of(a: Vector, b: Vector, c: Vector) -> Vector
+pub fn median_of(a: Vector, b: Vector, c: Vector) -> Vector
     ensures { λ r. ⌜ r ≡ medianOf a b c ⌝ }
 {
     Vector {
@@ -96,12 +97,24 @@ pub fn held_in(side: usize, place: usize, span: usize, p: Sixths) -> Sixths
     Sixths((clamp_i64(at + (p.0 as i64), 0, most) - at) as i32)
 }
 
-// v / 6, rounded.
-fn round_to_sixths(v: i32) -> i32
-    requires { ⌜ natAbs v ≤ 786432 ⌝ }
-    ensures { λ r. ⌜ r ≡ roundToSixths v ⌝ }
+// How many units a sample is.
+fn units_in_sample(precision: Svq3MvPrecision) -> i32
+    ensures { λ r. ⌜ r ≡ pos (unitsInSample precision) ⌝ }
 {
-    if v < 0 { (v - 2) / 6 } else { (v + 3) / 6 }
+    match precision {
+        Svq3MvPrecision::Fullpel => 1,
+        Svq3MvPrecision::Halfpel => 2,
+        Svq3MvPrecision::Thirdpel => 3,
+    }
+}
+
+// (v + 3) / 6, rounded down: 6 · 262144 more is positive.
+fn floor_of_sixth(v: i32) -> i32
+    requires { ⌜ natAbs v ≤ 1179648 ⌝ }
+    ensures { λ r. ⌜ r ≡ floorZ (v +ℤ pos 3) 6 ⌝ }
+{
+    let n = (v + 1572867) as u32 / 6;
+    (n as i32) - 262144
 }
 
 // A held predictor in the precision's unit.
@@ -109,11 +122,8 @@ pub fn convert_predictor(p: Sixths, precision: Svq3MvPrecision) -> Units
     requires { ⌜ natAbs (p .0) ≤ 393216 ⌝ }
     ensures { λ r. ⌜ r .0 ≡ convertPredictor precision (p .0) ⌝ }
 {
-    match precision {
-        Svq3MvPrecision::Fullpel => Units(round_to_sixths(p.0)),
-        Svq3MvPrecision::Halfpel => Units(round_to_sixths(2 * p.0)),
-        Svq3MvPrecision::Thirdpel => Units((p.0 + 1) >> 1),
-    }
+    let n = units_in_sample(precision);
+    Units(floor_of_sixth(n * p.0))
 }
 
 // How many sixths a unit is.
@@ -145,19 +155,36 @@ pub fn stored(u: Units, precision: Svq3MvPrecision) -> Moved
     }
 }
 
-// The held predictor p moved by the difference d.
-pub fn move_component(p: Sixths, precision: Svq3MvPrecision, d: Units) -> Moved
-    requires { ⌜ natAbs (p .0) ≤ 393216 ⌝ }
-    ensures { λ r. ⌜ r .value .0 ≡ storedPart precision (p .0) (d .0) ⌝ }
-    ensures { λ r. ⌜ r .clipped ≡ clippedPart precision (p .0) (d .0) ⌝ }
+// A predictor in units moved by the difference d, each step held in i32.
+fn move_held(from: Units, precision: Svq3MvPrecision, d: Units) -> Moved
+    ensures { λ r. ⌜ r .value .0 ≡ satZ (satZ (from .0 +ℤ d .0) *ℤ pos (storedScale precision)) ⌝ }
+    ensures { λ r. ⌜ r .clipped ≡ (overZ (from .0 +ℤ d .0) || overZ (satZ (from .0 +ℤ d .0) *ℤ pos (storedScale precision))) ⌝ }
 {
-    let from = convert_predictor(p, precision);
     let sum = sat_add(from.0, d.0);
     let moved = stored(Units(sum.value), precision);
     let value = moved.value;
     Moved {
         value,
         clipped: sum.over | moved.clipped,
+    }
+}
+
+// The held predictor p moved by the difference d. A sum of less than 29 bits is clipped at no precision.
+pub fn move_component(p: Sixths, precision: Svq3MvPrecision, d: Units) -> Moved
+    requires { ⌜ natAbs (p .0) ≤ 393216 ⌝ }
+    ensures { λ r. ⌜ r .value .0 ≡ storedPart precision (p .0) (d .0) ⌝ }
+    ensures { λ r. ⌜ r .clipped ≡ clippedPart precision (p .0) (d .0) ⌝ }
+{
+    let from = convert_predictor(p, precision);
+    let sum = (from.0 as i64) + (d.0 as i64);
+    if (sum < -268435456) | (sum > 268435455) {
+        return move_held(from, precision, d);
+    }
+    let scale = stored_scale(precision);
+    let value = (sum as i32) * scale;
+    Moved {
+        value: Sixths(value),
+        clipped: false,
     }
 }
 
@@ -176,7 +203,7 @@ fn fill_vectors_row(mv: &mut [i32], at: usize, n: usize, vx: i32, vy: i32)
 }
 
 // 1 at n cells, from cell `at` on.
-fn mark_row(marks: &mut [u8], at: usize, n: usize)
+pub fn mark_row(marks: &mut [u8], at: usize, n: usize)
     requires { ⌜ at + n ≤ length (now marks) ⌝ }
     ensures { λ _. ⌜ now (marks .exit) ≡ row (now (marks .entry)) at (always 1 0) n ⌝ }
 {

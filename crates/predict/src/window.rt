@@ -2,22 +2,22 @@
 // The window has 6 × 5 cells by rows: the macroblock's 4 × 4, a column on either side and a row above.
 ghost use mathlib.Core.Path.{_≡_};
 ghost use mathlib.Core.Bool.{true};
-ghost use Prim.Native.Nat.{ℕ, _+_, _*_, _≤_, _<_};
+ghost use Prim.Native.Nat.{ℕ, _+_, _-_, _*_, _≤_, _<_};
+ghost use lib.Dec.{eqb};
 ghost use lib.IntN.{pos};
-ghost use lib.ListN.{length, getD};
+ghost use lib.ListN.{length, getD, set};
+ghost use Rattle.ints.specs.Z.{if_then_else_};
 ghost use Rattle.picture.specs.Painted.{Inside};
 ghost use Rattle.picture.specs.Picture.{Within};
 ghost use Rattle.picture.specs.Rows.{row};
-ghost use Rattle.predict.specs.Predict.{Field, fieldOf, cellAt, aboveLeftOf, predictor};
-ghost use Rattle.predict.specs.Stored.{storedVectors, storedMarks};
-ghost use Rattle.predict.specs.Window.{Window, Seen, Part};
+ghost use Rattle.predict.specs.Predict.{Field, fieldOf, vector, cellAt, aboveLeftOf, combined, predictor};
+ghost use Rattle.predict.specs.Window.{Window, Seen, Part, pairSet, cornerPairs, cornerMarks};
 use crate::svq3_frame::Near;
 use crate::svq3_frame::Sixths;
 use crate::svq3_frame::Vector;
 use crate::svq3_frame::combined;
 use crate::svq3_frame::held_in;
-use crate::svq3_frame::or_else;
-use crate::svq3_frame::store_cells;
+use crate::svq3_frame::median_of;
 
 // The cell above and to the left of (x, y), as cell k of the window; marked 0 off the picture.
 fn load_cell(
@@ -135,7 +135,7 @@ pub fn load_neighbours(
 )
     requires { ⌜ Window (now near) (now marked) ⌝ }
     requires { ⌜ (cols ≤ 4096) × (length (now mv) ≡ 2 * length (now marks)) × Inside (4 * cols) (4 * column) (4 * row) 4 4 (length (now marks)) ⌝ }
-    ensures { λ _. ⌜ ((rows : ℕ) → row < rows → Seen (fieldOf cols rows (now (mv .entry)) (now (marks .entry))) column row (now (near .exit)) (now (marked .exit))) ⌝ }
+    ensures { λ _. ⌜ ((rows : ℕ) → row < rows → (wide high : ℕ) → Seen wide high (fieldOf cols rows (now (mv .entry)) (now (marks .entry))) column row (now (near .exit)) (now (marked .exit))) ⌝ }
 {
     let whole = (0 < column) & (0 < row) & (column + 1 < cols);
     let mut r = 0;
@@ -171,6 +171,42 @@ fn mv_block(near: &[i32; 60], marked: &[u8; 30], i: usize) -> Near
     })
 }
 
+// The numbers of cell i, whatever its mark.
+fn vector_at(near: &[i32; 60], i: usize) -> Vector
+    requires { ⌜ i < 30 ⌝ }
+    ensures { λ r. ⌜ r ≡ vector (getD (now (near .entry)) (2 * i) (pos 0)) (getD (now (near .entry)) (2 * i + 1) (pos 0)) ⌝ }
+{
+    let x = near[2 * i];
+    let y = near[2 * i + 1];
+    Vector {
+        x: Sixths(x),
+        y: Sixths(y),
+    }
+}
+
+// Cell c, or d where c is marked 0.
+fn marked_or(marked: &[u8; 30], c: usize, d: usize) -> usize
+    requires { ⌜ (c < 30) × (d < 30) ⌝ }
+    ensures { λ r. ⌜ (r < 30) × (r ≡ (if eqb (getD (now (marked .entry)) c 0) 0 then d else c)) ⌝ }
+{
+    if marked[c] == 0 { d } else { c }
+}
+
+// The prediction from the cells a, b and c. Most often none is missing.
+fn predicted(near: &[i32; 60], marked: &[u8; 30], a: usize, b: usize, c: usize) -> Vector
+    requires { ⌜ (a < 30) × (b < 30) × (c < 30) ⌝ }
+    ensures { λ r. ⌜ r ≡ combined (cellAt (now (near .entry)) (now (marked .entry)) a) (cellAt (now (near .entry)) (now (marked .entry)) b) (cellAt (now (near .entry)) (now (marked .entry)) c) ⌝ }
+{
+    if (marked[a] == 0) | (marked[b] == 0) | (marked[c] == 0) {
+        return combined(
+            mv_block(near, marked, a),
+            mv_block(near, marked, b),
+            mv_block(near, marked, c),
+        );
+    }
+    median_of(vector_at(near, a), vector_at(near, b), vector_at(near, c))
+}
+
 // The predictor of the partition of wide × high cells whose first cell is (cx, cy) of its macroblock, in any field that the window shows.
 pub fn predict_mv(
     near: &[i32; 60],
@@ -185,16 +221,11 @@ pub fn predict_mv(
     high: usize,
 ) -> Vector
     requires { ⌜ Within cols rows column row × Part cx cy wide high ⌝ }
-    ensures { λ r. ⌜ ((f : Field) → f .cols ≡ cols → f .rows ≡ rows → Seen f column row (now (near .entry)) (now (marked .entry)) → r ≡ predictor f (4 * column + cx) (4 * row + cy) wide high) ⌝ }
+    ensures { λ r. ⌜ ((f : Field) → f .cols ≡ cols → f .rows ≡ rows → Seen wide high f column row (now (near .entry)) (now (marked .entry)) → r ≡ predictor f (4 * column + cx) (4 * row + cy) wide high) ⌝ }
 {
     let d = cy * 6 + cx;
-    let a = mv_block(near, marked, d + 6);
-    let b = mv_block(near, marked, d + 1);
-    let c = or_else(
-        mv_block(near, marked, d + 1 + wide),
-        mv_block(near, marked, d),
-    );
-    let p = combined(a, b, c);
+    let c = marked_or(marked, d + 1 + wide, d);
+    let p = predicted(near, marked, d + 6, d + 1, c);
     let px = p.x;
     let py = p.y;
     Vector {
@@ -203,7 +234,18 @@ pub fn predict_mv(
     }
 }
 
-// The vector to the cells of that partition, in the window.
+// The vector, marked 1, to cell i of the window.
+fn store_cell(near: &mut [i32; 60], marked: &mut [u8; 30], i: usize, vx: i32, vy: i32)
+    requires { ⌜ i < 30 ⌝ }
+    ensures { λ _. ⌜ now (near .exit) ≡ pairSet (now (near .entry)) i vx vy ⌝ }
+    ensures { λ _. ⌜ now (marked .exit) ≡ set (now (marked .entry)) i 1 ⌝ }
+{
+    near[2 * i] = vx;
+    near[2 * i + 1] = vy;
+    marked[i] = 1;
+}
+
+// The vector to the corners of that partition, in the window: no other cell of it is looked at.
 pub fn store_partition_in(
     near: &mut [i32; 60],
     marked: &mut [u8; 30],
@@ -214,9 +256,15 @@ pub fn store_partition_in(
     vx: i32,
     vy: i32,
 )
-    requires { ⌜ Window (now near) (now marked) × Part cx cy wide high ⌝ }
-    ensures { λ _. ⌜ now (near .exit) ≡ storedVectors (now (near .entry)) 6 (cx + 1) (cy + 1) wide high vx vy ⌝ }
-    ensures { λ _. ⌜ now (marked .exit) ≡ storedMarks (now (marked .entry)) 6 (cx + 1) (cy + 1) wide high ⌝ }
+    requires { ⌜ Part cx cy wide high ⌝ }
+    ensures { λ _. ⌜ now (near .exit) ≡ cornerPairs (now (near .entry)) ((cy + 1) * 6 + (cx + 1)) (wide - 1) (6 * (high - 1)) vx vy ⌝ }
+    ensures { λ _. ⌜ now (marked .exit) ≡ cornerMarks (now (marked .entry)) ((cy + 1) * 6 + (cx + 1)) (wide - 1) (6 * (high - 1)) ⌝ }
 {
-    store_cells(near, marked, 6, cx + 1, cy + 1, wide, high, vx, vy);
+    let k = (cy + 1) * 6 + (cx + 1);
+    let across = wide - 1;
+    let down = 6 * (high - 1);
+    store_cell(near, marked, k, vx, vy);
+    store_cell(near, marked, k + across, vx, vy);
+    store_cell(near, marked, k + down, vx, vy);
+    store_cell(near, marked, k + across + down, vx, vy);
 }

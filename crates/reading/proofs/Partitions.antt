@@ -1,16 +1,16 @@
 -- One partition: what its prediction, its difference and its storing make of what was read before it.
 -- Assumes nothing.
-use mathlib.Core.Path.{_≡_, ap, _∙_, transport}
+use mathlib.Core.Path.{_≡_, sym, ap, _∙_, transport}
 use mathlib.Core.List.{List}
-use Prim.Native.Nat.{ℕ, _+_, _*_, _/_, _≤_, _<_}
+use Prim.Native.Nat.{ℕ, _+_, _-_, _*_, _/_, _≤_, _<_}
 use lib.IntN.{ℤ, natAbs}
 use lib.ListN.{set}
 use Rattle.bits.specs.Code.{bitValue}
 use Rattle.vectors.specs.Modes.{partitionWidth, partitionHeight, numMotionVectors, offsetX, offsetY}
 use Rattle.predict.specs.Predict.{Field, predictor}
 use Rattle.predict.specs.Units.{storedPart, clippedPart}
-use Rattle.predict.specs.Stored.{storedVectors, storedMarks, storedField}
-use Rattle.predict.specs.Window.{Seen, Part, Follows}
+use Rattle.predict.specs.Stored.{storedField}
+use Rattle.predict.specs.Window.{Seen, Part, Follows, cornerPairs, cornerMarks}
 use Rattle.predict.specs.declared.svq3_frame.Vector.{Vector}
 use Rattle.predict.proofs.Following.{part-of, follows-held, follows-stored}
 use Rattle.reading.specs.Read.{Moving, moved, predictorAt, storedAt}
@@ -23,21 +23,25 @@ module _ (motion : Motion) (i : ℕ) (g : InGrid motion) (among : i < numMotionV
   pub part-at : Part (ox / 4) (oy / 4) (w / 4) (h / 4)
   part-at = rw (eox, eoy, ew, eh) (part-of (motion .call .mode) i (g .mode) among)
 
-  module _ {f : Field} {near : List ℤ} {marked : List ℕ} (t : Follows f (motion .cols) (motion .rows) (motion .call .column) (motion .call .row) near marked)
-      {from : Vector} (answered : (f : Field) → f .cols ≡ motion .cols → f .rows ≡ motion .rows → Seen f (motion .call .column) (motion .call .row) near marked → from ≡ predictor f (4 * motion .call .column + ox / 4) (4 * motion .call .row + oy / 4) (w / 4) (h / 4)) where
+  -- the window, by the size as it was answered
+  size-follows : {f : Field} {near : List ℤ} {marked : List ℕ} → Follows (partitionWidth (motion .call .mode) / 4) (partitionHeight (motion .call .mode) / 4) f (motion .cols) (motion .rows) (motion .call .column) (motion .call .row) near marked → Follows (w / 4) (h / 4) f (motion .cols) (motion .rows) (motion .call .column) (motion .call .row) near marked
+  size-follows {f} {near} {marked} t = transport (λ j. Follows (sym ew j / 4) (sym eh j / 4) f (motion .cols) (motion .rows) (motion .call .column) (motion .call .row) near marked) t
+
+  module _ {f : Field} {near : List ℤ} {marked : List ℕ} (t : Follows (partitionWidth (motion .call .mode) / 4) (partitionHeight (motion .call .mode) / 4) f (motion .cols) (motion .rows) (motion .call .column) (motion .call .row) near marked)
+      {from : Vector} (answered : (f : Field) → f .cols ≡ motion .cols → f .rows ≡ motion .rows → Seen (w / 4) (h / 4) f (motion .call .column) (motion .call .row) near marked → from ≡ predictor f (4 * motion .call .column + ox / 4) (4 * motion .call .row + oy / 4) (w / 4) (h / 4)) where
     pub held-at : (natAbs (from .x .0) ≤ 393216) × (natAbs (from .y .0) ≤ 393216)
-    held-at = follows-held (g .within) t (ox / 4) (oy / 4) part-at (answered f (t .same-cols) (t .same-rows) (t .seen))
+    held-at = follows-held (g .within) (size-follows t) (ox / 4) (oy / 4) part-at (answered f (t .same-cols) (t .same-rows) (size-follows t .seen))
 
     predicted-at : from ≡ predictorAt (motion .call) f i
     unfolding predictorAt
-    predicted-at = answered f (t .same-cols) (t .same-rows) (t .seen) ∙ λ j. predictor f (4 * motion .call .column + eox j / 4) (4 * motion .call .row + eoy j / 4) (ew j / 4) (eh j / 4)
+    predicted-at = answered f (t .same-cols) (t .same-rows) (size-follows t .seen) ∙ λ j. predictor f (4 * motion .call .column + eox j / 4) (4 * motion .call .row + eoy j / 4) (ew j / 4) (eh j / 4)
 
   -- MOVED
   module _ (dx dy : ℤ) (m : Moving) {clipped : ℕ} {vectors near : List ℤ} {marked : List ℕ} (t : Holds m motion clipped vectors near marked)
-      {from : Vector} (answered : (f : Field) → f .cols ≡ motion .cols → f .rows ≡ motion .rows → Seen f (motion .call .column) (motion .call .row) near marked → from ≡ predictor f (4 * motion .call .column + ox / 4) (4 * motion .call .row + oy / 4) (w / 4) (h / 4))
+      {from : Vector} (answered : (f : Field) → f .cols ≡ motion .cols → f .rows ≡ motion .rows → Seen (w / 4) (h / 4) f (motion .call .column) (motion .call .row) near marked → from ≡ predictor f (4 * motion .call .column + ox / 4) (4 * motion .call .row + oy / 4) (w / 4) (h / 4))
       {vx vy : ℤ} (ex : vx ≡ storedPart (motion .precision) (from .x .0) dx) (ey : vy ≡ storedPart (motion .precision) (from .y .0) dy)
       {bx by : ℕ} (fx : bx ≡ bitValue (clippedPart (motion .precision) (from .x .0) dx)) (fy : by ≡ bitValue (clippedPart (motion .precision) (from .y .0) dy))
-      {near′ : List ℤ} {marked′ : List ℕ} (en : near′ ≡ storedVectors near 6 (ox / 4 + 1) (oy / 4 + 1) (w / 4) (h / 4) vx vy) (em : marked′ ≡ storedMarks marked 6 (ox / 4 + 1) (oy / 4 + 1) (w / 4) (h / 4)) where
+      {near′ : List ℤ} {marked′ : List ℕ} (en : near′ ≡ cornerPairs near ((oy / 4 + 1) * 6 + (ox / 4 + 1)) (w / 4 - 1) (6 * (h / 4 - 1)) vx vy) (em : marked′ ≡ cornerMarks marked ((oy / 4 + 1) * 6 + (ox / 4 + 1)) (w / 4 - 1) (6 * (h / 4 - 1))) where
     pub moved-at : Holds (moved (motion .call) (motion .precision) i m dy dx) motion (clipped + bx + by) (set (set vectors (2 * i) vx) (2 * i + 1) vy) near′ marked′
     unfolding moved storedAt
     moved-at =
@@ -50,6 +54,6 @@ module _ (motion : Motion) (i : ℕ) (g : InGrid motion) (among : i < numMotionV
         record {
           count = λ j. t .count j + kx j + ky j;
           stored = λ j. set (set (t .stored j) (2 * i) (sx j)) (2 * i + 1) (sy j);
-          follows = transport (λ j. Follows (storedField f (4 * motion .call .column + eox j / 4) (4 * motion .call .row + eoy j / 4) (ew j / 4) (eh j / 4) (sx j) (sy j)) (motion .cols) (motion .rows) (motion .call .column) (motion .call .row) near′ marked′)
-              (follows-stored (g .within) (t .follows) (ox / 4) (oy / 4) part-at vx vy en em);
+          follows = transport (λ j. Follows (ew j / 4) (eh j / 4) (storedField f (4 * motion .call .column + eox j / 4) (4 * motion .call .row + eoy j / 4) (ew j / 4) (eh j / 4) (sx j) (sy j)) (motion .cols) (motion .rows) (motion .call .column) (motion .call .row) near′ marked′)
+              (follows-stored (g .within) (size-follows (t .follows)) (ox / 4) (oy / 4) part-at vx vy en em);
         }

@@ -2,9 +2,10 @@
 -- Assumes nothing.
 use mathlib.Core.Path.{_≡_}
 use mathlib.Core.List.{List}
-use Prim.Native.Nat.{ℕ, _+_, _≤_}
+use Prim.Native.Nat.{ℕ, _+_, _/_, _≤_}
 use lib.IntN.{ℤ}
 use Rattle.refusal.specs.Got.{Got, got, refused}
+use Rattle.vectors.specs.Modes.{partitionWidth, partitionHeight}
 use Rattle.predict.specs.Predict.{fieldOf}
 use Rattle.predict.specs.Window.{Follows}
 use Rattle.picture.specs.Picture.{Within}
@@ -45,7 +46,7 @@ pub record InGrid (motion : Motion) : Type 0 where
 pub record Holds (m : Moving) (motion : Motion) (clipped : ℕ) (vectors near : List ℤ) (marked : List ℕ) : Type 0 where
   pub count : clipped ≡ m .clipped
   pub stored : vectors ≡ m .vectors
-  pub follows : Follows (m .field) (motion .cols) (motion .rows) (motion .call .column) (motion .call .row) near marked
+  pub follows : Follows (partitionWidth (motion .call .mode) / 4) (partitionHeight (motion .call .mode) / 4) (m .field) (motion .cols) (motion .rows) (motion .call .column) (motion .call .row) near marked
 
 -- the answer of a reader of one partition's vector, and what it leaves, which is said where it has a vector
 pub record Stepping (motion : Motion) (at : ℕ) (read : Got Moving) (answer : VectorsAnswer) (vectors near : List ℤ) (marked : List ℕ) : Type 0 where

@@ -10,6 +10,8 @@ ghost use Rattle.vectors.specs.Modes.{numMotionVectors};
 ghost use Rattle.record.specs.Record.{noVectors, noLevels};
 ghost use Rattle.reading.specs.Read.{Moving, moved, readVectors, readQuantiser, atFirst, readResidual, readCoded, readMacroblock};
 ghost use Rattle.reading.specs.Answers.{contextOf, quantiserAnswer, InGrid, Holds, Stepping, Vectoring, Reading};
+use bits::pair::PairAnswer;
+use bits::pair::read_signed_pair;
 use bits::svq3_mv::SignedAnswer;
 use bits::svq3_mv::read_signed_code;
 use predict::svq3_frame::Units;
@@ -128,24 +130,21 @@ fn read_partition(
     requires { ⌜ length (now bits) < 2 ^ 61 ⌝ }
     ensures { λ r. ⌜ ((m : Moving) → Holds m motion clipped (now (vectors .entry)) (now (near .entry)) (now (marked .entry)) → Stepping motion at (readVectors (motion .call) (motion .precision) 1 i m (drop at (bitList (now (bits .entry))))) r (now (vectors .exit)) (now (near .exit)) (now (marked .exit))) ⌝ }
 {
-    match read_signed_code(bits, at) {
-        SignedAnswer::Value(dy, p) => match read_signed_code(bits, p) {
-            SignedAnswer::Value(dx, next) => {
-                let so_far = move_partition(
-                    vectors,
-                    near,
-                    marked,
-                    motion,
-                    i,
-                    clipped,
-                    Units(dx),
-                    Units(dy),
-                );
-                VectorsAnswer::Vectors(so_far, next)
-            }
-            SignedAnswer::Refused(r) => VectorsAnswer::Refused(r),
-        },
-        SignedAnswer::Refused(r) => VectorsAnswer::Refused(r),
+    match read_signed_pair(bits, at) {
+        PairAnswer::Pair(dy, dx, next) => {
+            let so_far = move_partition(
+                vectors,
+                near,
+                marked,
+                motion,
+                i,
+                clipped,
+                Units(dx),
+                Units(dy),
+            );
+            VectorsAnswer::Vectors(so_far, next)
+        }
+        PairAnswer::Refused(r) => VectorsAnswer::Refused(r),
     }
 }
 

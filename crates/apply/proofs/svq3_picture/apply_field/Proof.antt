@@ -16,7 +16,9 @@ mark-macroblock-requires c κs =
     (s .pre .0 .0 .wide, omega (arith, s .pre .1 .0, s .pre .1 .1), macroblock-cells (s .pre .0 .0) (s .pre .1 .1))
 
 store-partitions-requires : tie.Need-store-partitions-requires
-store-partitions-requires c κs = c .before .before .before .before .pre
+store-partitions-requires c κs =
+    let s = c .before .before .before .before in
+    ((s .pre .0 .0, s .pre .0 .1, omega (arith, c .before .before .if1 .left)), s .pre .1)
 
 returns : tie.Need-returns
 unfolding storedField
@@ -31,8 +33,8 @@ returns-2 : tie.Need-returns-2
 returns-2 c =
     let a = c .before .before .before .before .before .before .before .before .args in
     let f = fieldOf (a .cols) (a .rows) (a .mv .now) (a .marks .now) in (
-      (λ ls. ap (λ (g : Field). g .mv) (c .before .before .before .store-partitions .ensures ∙ sym (coded-field (recordOf (a .head) (a .vectors .now) ls) f (c .before .before .before .before .before .before .if1 .left)))),
-      (λ ls. ap (λ (g : Field). g .marks) (c .before .before .before .store-partitions .ensures ∙ sym (coded-field (recordOf (a .head) (a .vectors .now) ls) f (c .before .before .before .before .before .before .if1 .left)))),
+      (λ ls. c .before .before .before .store-partitions .ensures .0 ∙ sym (ap (λ (g : Field). g .mv) (coded-field (recordOf (a .head) (a .vectors .now) ls) f (c .before .before .before .before .before .before .if1 .left)))),
+      (λ ls. c .before .before .before .store-partitions .ensures .1 ∙ sym (ap (λ (g : Field). g .marks) (coded-field (recordOf (a .head) (a .vectors .now) ls) f (c .before .before .before .before .before .before .if1 .left)))),
     )
 
 pub apply-field-spec : {M : Type 1} → statement M

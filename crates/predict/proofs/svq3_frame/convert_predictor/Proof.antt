@@ -1,54 +1,42 @@
--- `predict::svq3_frame::convert_predictor` answers `convertPredictor`, by the precision.
+-- `predict::svq3_frame::convert_predictor` answers `convertPredictor`: at every precision a rounded sixth.
+use mathlib.Core.Path.{_≡_, sym, ap, ap₂, subst, _∙_}
+use Prim.Native.Nat.{_≤_}
+use lib.IntN.{ℤ, pos, natAbs, _+ℤ_, _*ℤ_}
 use mir.Syntax.{w32}
+use mir.Val.{SFits}
 use borrow.Author.Needs.{needs}
-use Rattle.ints.proofs.Fits.{signed, back, via}
-use Rattle.ints.proofs.Same.{reads}
-use Rattle.predict.specs.Units.{roundToSixths, convertPredictor}
-use Rattle.predict.proofs.Moves.{held-read, twice-read, held-small, twice-small}
+use Rattle.ints.specs.Z.{floorZ}
+use Rattle.ints.proofs.Fits.{read, signed, back}
+use Rattle.predict.specs.Units.{unitsInSample}
+use Rattle.predict.proofs.Moves.{field-read, units-size, converted}
 use Rattle.predict.proofs.svq3_frame.convert_predictor.Statement.{statement}
 use Rattle.predict.proofs.svq3_frame.convert_predictor.Tie as tie
 
-round-to-sixths-requires : tie.Need-round-to-sixths-requires
-round-to-sixths-requires c κs = let s = c .before .before .before in held-small (s .args .p .0) (s .pre)
+-- the product, as the machine reads its factors
+product : (c : tie.After-struct-told) → let a = c .before .before .before .args in read w32 (c .before .before .units-in-sample .result) *ℤ read w32 (a .p .0) ≡ pos (unitsInSample (a .precision)) *ℤ a .p .0
+product c =
+    let u = c .before .before .units-in-sample in
+    ap₂ _*ℤ_ (back w32 (u .ok) (u .ensures)) (field-read (c .before .before .before .args .p .0) (c .struct-told .given .0 .1))
 
-mul-round-to-sixths : tie.Need-mul-round-to-sixths
-mul-round-to-sixths c = let h = c .before .before .before .before .pre in search signed depth 20
+mul-floor-of-sixth : tie.Need-mul-floor-of-sixth
+mul-floor-of-sixth c =
+    let s = c .before .before .before in
+    let h = units-size (s .args .precision) (s .args .p .0) (s .pre) in
+    subst (SFits w32) (sym (product c)) (search signed depth 20)
 
-round-to-sixths-requires-2 : tie.Need-round-to-sixths-requires-2
-round-to-sixths-requires-2 c κs = let s = c .before .before .before .before in twice-small (s .args .p .0) (s .pre)
+-- and read back itself
+argument : (c : tie.After-struct-told) → let a = c .before .before .before .args in read w32 (read w32 (c .before .before .units-in-sample .result) *ℤ read w32 (a .p .0)) ≡ pos (unitsInSample (a .precision)) *ℤ a .p .0
+argument c = back w32 (mul-floor-of-sixth c .sfits) (product c)
 
-add-t7 : tie.Need-add-t7
-add-t7 c = let h = c .before .before .before .before .pre in search signed depth 20
+floor-of-sixth-requires : tie.Need-floor-of-sixth-requires
+floor-of-sixth-requires c κs =
+    let s = c .before .before .before in
+    subst (λ z. natAbs z ≤ 1179648) (sym (argument c)) (units-size (s .args .precision) (s .args .p .0) (s .pre))
 
 returns : tie.Need-returns
-unfolding convertPredictor
 returns c =
-    let s = c .before .before .before .before in
-    rw (c .before .before .enum-told .given .1)
-    (back w32 (c .round-to-sixths .ok) (via roundToSixths (c .round-to-sixths .ensures) (held-read (s .args .p .0) (s .pre))))
-
-returns-2 : tie.Need-returns-2
-unfolding convertPredictor
-returns-2 c =
-    let s = c .before .before .before .before .before in
-    rw (c .before .before .before .enum-told2 .given .1)
-    (back w32 (c .round-to-sixths2 .ok) (via roundToSixths (c .round-to-sixths2 .ensures) (twice-read (s .args .p .0) (s .pre))))
-
-returns-3 : tie.Need-returns-3
-unfolding convertPredictor
-returns-3 c = let h = c .before .before .before .before .pre in rw (c .before .before .enum-told3 .given .1) (search reads depth 20)
+    let a = c .before .before .before .before .args in
+    back w32 (c .floor-of-sixth .ok) (c .floor-of-sixth .ensures ∙ ap (λ z. floorZ (z +ℤ pos 3) 6) (argument (c .before)) ∙ converted (a .precision) (a .p .0))
 
 pub convert-predictor-spec : {M : Type 1} → statement M
-convert-predictor-spec =
-    tie.close
-    (tie.spec
-    (λ c. search needs)
-    round-to-sixths-requires
-    (λ c. search needs)
-    mul-round-to-sixths
-    round-to-sixths-requires-2
-    (λ c. search needs)
-    add-t7
-    returns
-    returns-2
-    returns-3)
+convert-predictor-spec = tie.close (tie.spec (λ c κs. search needs) mul-floor-of-sixth floor-of-sixth-requires returns)

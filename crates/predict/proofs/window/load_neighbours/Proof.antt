@@ -55,9 +55,9 @@ loop-again c =
     )
 
 returns : tie.Need-returns Inv-loop μ-loop
-returns c rows h =
+returns c rows h wide high =
     let l = c .before .loop in
-    record { window = l .inv .1; shows = λ d q ld lq. l .inv .2 rows h q (omega arith) d ld }
+    record { window = l .inv .1; shows = λ d q ld lq t. l .inv .2 rows h q (omega arith) d ld }
 
 pub load-neighbours-spec : {M : Type 1} → statement M
 load-neighbours-spec =

@@ -69,7 +69,7 @@ move-partition-spec =
     (λ c κs. (c .before .before .before .before .before .before .before .before .before .pre .0 .0 .within, part c))
     (λ c κs. held (c .before .before) .0)
     (λ c κs. held (c .before .before .before) .1)
-    (λ c κs. (c .before .before .before .before .before .before .before .before .before .before .before .before .before .before .before .before .before .before .pre .1 .1 .1 .follows .seen .window, part (c .before .before .before .before .before .before .before .before .before)))
+    (λ c κs. part (c .before .before .before .before .before .before .before .before .before))
     (λ c. omega (arith, few c))
     (λ c. omega (arith, few c))
     slice-set-from-vx

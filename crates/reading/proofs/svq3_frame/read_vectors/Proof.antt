@@ -1,11 +1,11 @@
 -- `reading::svq3_frame::read_vectors`: what is still to be read, joined to what was read, is the whole.
 use mathlib.Core.Path.{_≡_, refl, sym, ap, _∙_}
-use Prim.Native.Nat.{_-_, _<_}
+use Prim.Native.Nat.{_-_, _/_, _<_}
 use native.Mathlib.Omega.{arith}
 use borrow.Author.Needs.{needs}
 use lib.ListN.{length}
 use Rattle.bits.specs.Bits.{bitList}
-use Rattle.vectors.specs.Modes.{numMotionVectors}
+use Rattle.vectors.specs.Modes.{partitionWidth, partitionHeight, numMotionVectors}
 use Rattle.vectors.proofs.Partitions.{num-most}
 use Rattle.predict.specs.Predict.{fieldOf}
 use Rattle.predict.proofs.Following.{macroblock-cells, follows-start}
@@ -42,7 +42,7 @@ loop-holds c =
     let s = c .before .before .before .before .before .before .before .before .before in
     let a = s .args in
     let f = fieldOf (a .motion .cols) (a .motion .rows) (a .mv .now) (a .marks .now) in
-    (ap length (s .pre .1 .2) ∙ length-noVectors, (atFirst f, begins (a .motion) (c .num-motion-vectors .result) (atFirst f) (bitList (a .bits .now)) (a .at), record { count = refl; stored = s .pre .1 .2; follows = follows-start (s .pre .0 .0 .within) (s .pre .1 .0) (s .pre .1 .1) (c .before .load-neighbours .ensures) }))
+    (ap length (s .pre .1 .2) ∙ length-noVectors, (atFirst f, begins (a .motion) (c .num-motion-vectors .result) (atFirst f) (bitList (a .bits .now)) (a .at), record { count = refl; stored = s .pre .1 .2; follows = follows-start (s .pre .0 .0 .within) (s .pre .1 .0) (s .pre .1 .1) (c .before .load-neighbours .ensures) (partitionWidth (a .motion .call .mode) / 4) (partitionHeight (a .motion .call .mode) / 4) }))
 
 read-partition-requires : tie.Need-read-partition-requires Inv-loop μ-loop
 unfolding atFirst
