@@ -4,10 +4,10 @@ use mathlib.Core.Path.{_≡_, refl, sym, ap, _∙_}
 use mathlib.Core.Bool.{true, false}
 use mathlib.Core.List.{List, [], _∷_, _++_, map}
 use mathlib.Core.Logic.{⊎-elim}
-use Prim.Native.Nat.{ℕ, suc, _+_, _≤_, _<_}
+use Prim.Native.Nat.{ℕ, zero, suc, _+_, _≤_, _<_}
 use native.Mathlib.Omega.{arith}
-use borrow.Author.Tests.{leb-true, le-leb, lt-leb}
-use lib.Dec.{leb}
+use borrow.Author.Tests.{leb-true, ltb-true, le-leb, lt-leb}
+use lib.Dec.{leb, ltb}
 use lib.IntN.{ℤ, pos}
 use lib.ListN.{length, getD, take, drop, set, length-set, length-drop, length-map, take-append-drop, List·getD-map}
 use lib.Seq.{sets, length-take-le, getD-set-same, getD-set-other, getD-take, getD-drop, ext-getD}
@@ -18,9 +18,8 @@ use Rattle.residual.specs.declared.svq3_coeff.ListAnswer.the-variants as list
 use Rattle.record.specs.Parse.{readSigneds}
 use Rattle.record.specs.Answers.{Left}
 use Rattle.record.proofs.Answers.{left-end}
-use Rattle.transcript.specs.Short.{allShort}
-use Rattle.transcript.proofs.Short.{both, short-each}
-use Rattle.parsing.specs.Short.{shortAt, Received}
+use Rattle.transcript.proofs.Short.{both}
+use Rattle.parsing.specs.Short.{allShort, shortAt, Received}
 
 -- ---- the test
 -- too few numbers, and enough of them
@@ -31,6 +30,18 @@ short-beyond l at n h = rw (lt-leb (at + n) (length l) h)
 pub short-within : (l : List ℕ) (at n : ℕ) → at + n ≤ length l → allShort l at n ≡ shortAt l at n
 unfolding shortAt
 short-within l at n h = rw (le-leb (at + n) (length l) h)
+
+short-each : (l : List ℕ) (at n : ℕ) → allShort l at n ≡ true → (k : ℕ) → k < n → getD l (at + k) 0 < 128
+unfolding allShort
+short-each l at zero e k h = absurd (omega arith)
+short-each l at (suc n) e k h =
+    let b = both (allShort l at n) (ltb (getD l (at + n) 0) 128) e in
+    ⊎-elim
+    (λ (i : k < n). short-each l at n (b .0) k i)
+    (λ (i : n ≤ k).
+    let j : k ≡ n = omega arith in
+    rw j (ltb-true (getD l (at + n) 0) 128 (b .1)))
+    (lt-or-le k n)
 
 -- ---- read
 -- one more of them

@@ -1,14 +1,18 @@
 -- Bytes that are a number each: contracts of inner functions.
 -- Assumes nothing.
 use mathlib.Core.Path.{_≡_}
-use mathlib.Core.Bool.{Bool, _&&_}
+use mathlib.Core.Bool.{Bool, true, _&&_}
 use mathlib.Core.List.{List}
-use Prim.Native.Nat.{ℕ, _+_, _<_}
-use lib.Dec.{leb}
+use Prim.Native.Nat.{ℕ, zero, suc, _+_, _<_}
+use lib.Dec.{leb, ltb}
 use lib.IntN.{ℤ, pos}
 use lib.ListN.{length, getD}
 use Rattle.number.specs.SignedNumber.{received}
-use Rattle.transcript.specs.Short.{allShort}
+
+-- each of n numbers from `at` on is below 128
+unfoldable pub allShort : List ℕ → ℕ → ℕ → Bool
+allShort l at zero = true
+allShort l at (suc n) = allShort l at n && ltb (getD l (at + n) 0) 128
 
 -- there are n numbers from `at` on, each below 128
 unfoldable pub shortAt : List ℕ → ℕ → ℕ → Bool

@@ -9,5 +9,5 @@ pub mod Records
 pub mod Lengths
 pub mod Answers
 pub mod Walks
-pub mod BitLists
+pub mod Sides
 pub mod Examples

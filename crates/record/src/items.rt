@@ -1,15 +1,15 @@
 // The 26 lists of levels: which are coded, where each stands among the 392 levels, and reading them from the bits.
 ghost use mathlib.Core.Path.{_≡_};
-ghost use Prim.Native.Nat.{_<_, _^_};
+ghost use Prim.Native.Nat.{_+_, _*_, _≤_, _<_, _^_};
 ghost use lib.ListN.{length, drop};
-ghost use lib.Seq.{sets};
-ghost use Rattle.refusal.specs.Got.{mapGot};
 ghost use Rattle.bits.specs.Bits.{bitList};
-ghost use Rattle.record.specs.Items.{itemCoded, itemPlace, Group, readItem, readItems};
+ghost use Rattle.record.specs.Items.{itemCoded, itemPlace, Group, readItems};
+ghost use Rattle.record.specs.Sides.{readSide};
 ghost use Rattle.record.specs.Answers.{Left};
 use residual::svq3_cbp::chroma_class;
 use residual::svq3_cbp::luma_quadrant_coded;
 use residual::svq3_coeff::ListAnswer;
+use residual::svq3_coeff::ResidualBook;
 use residual::svq3_coeff::decode_chroma_dc_2x2;
 use residual::svq3_coeff::decode_residual_4x4_normal;
 
@@ -52,40 +52,94 @@ pub fn item_place(i: usize) -> usize
     }
 }
 
-// List i, stored at its place.
-fn read_item(levels: &mut [i32], bits: &[u8], at: usize, i: usize) -> ListAnswer
-    requires { ⌜ (i < 26) × (length (now levels) ≡ 392) × (length (now bits) < 2 ^ 61) ⌝ }
-    ensures { λ r. ⌜ Left at (mapGot (sets (now (levels .entry)) (itemPlace i)) (readItem i (drop at (bitList (now (bits .entry)))))) r (now (levels .exit)) ⌝ }
+// `count` lists of 4×4 blocks, which are stored side by side from `place` on. After a refusal the lists before the refused one are stored, here and below.
+fn read_blocks(
+    levels: &mut [i32],
+    bits: &[u8],
+    at: usize,
+    place: usize,
+    count: usize,
+    start: u32,
+) -> ListAnswer
+    requires { ⌜ (place + 16 * count ≤ length (now levels)) × (start ≤ 1) × (length (now bits) < 2 ^ 61) ⌝ }
+    ensures { λ r. ⌜ Left at (readSide ResidualBook.NormalScan start count place (now (levels .entry)) (drop at (bitList (now (bits .entry))))) r (now (levels .exit)) ⌝ }
 {
-    let place = item_place(i);
-    if i < 16 {
-        return decode_residual_4x4_normal(levels, place, bits, at, 0);
+    let mut p = at;
+    let mut i = 0;
+    while i < count {
+        match decode_residual_4x4_normal(levels, place + 16 * i, bits, p, start) {
+            ListAnswer::End(next) => {
+                p = next;
+                i += 1;
+            }
+            ListAnswer::Refused(r) => return ListAnswer::Refused(r),
+        }
     }
-    if i < 18 {
-        return decode_chroma_dc_2x2(levels, place, bits, at);
-    }
-    decode_residual_4x4_normal(levels, place, bits, at, 1)
+    ListAnswer::End(p)
 }
 
-// All coded lists, each stored at its place. After a refusal the lists before the refused one are stored.
+// Cb DC and Cr DC.
+fn read_dc(levels: &mut [i32], bits: &[u8], at: usize) -> ListAnswer
+    requires { ⌜ (length (now levels) ≡ 392) × (length (now bits) < 2 ^ 61) ⌝ }
+    ensures { λ r. ⌜ Left at (readSide ResidualBook.ChromaDc 0 2 256 (now (levels .entry)) (drop at (bitList (now (bits .entry))))) r (now (levels .exit)) ⌝ }
+{
+    match decode_chroma_dc_2x2(levels, 256, bits, at) {
+        ListAnswer::End(next) => decode_chroma_dc_2x2(levels, 260, bits, next),
+        ListAnswer::Refused(r) => ListAnswer::Refused(r),
+    }
+}
+
+// The four lists of luma quadrant q, where they are coded.
+fn read_quadrant(levels: &mut [i32], bits: &[u8], at: usize, pattern: u8, q: usize) -> ListAnswer
+    requires { ⌜ (length (now levels) ≡ 392) × (length (now bits) < 2 ^ 61) × (q < 4) ⌝ }
+    ensures { λ r. ⌜ Left at (readItems 4 (4 * q) pattern (now (levels .entry)) (drop at (bitList (now (bits .entry))))) r (now (levels .exit)) ⌝ }
+{
+    if luma_quadrant_coded(pattern, q as u32) {
+        return read_blocks(levels, bits, at, 64 * q, 4, 0);
+    }
+    ListAnswer::End(at)
+}
+
+// The eight chroma AC lists, where they are coded.
+fn read_ac(levels: &mut [i32], bits: &[u8], at: usize, pattern: u8) -> ListAnswer
+    requires { ⌜ (length (now levels) ≡ 392) × (length (now bits) < 2 ^ 61) ⌝ }
+    ensures { λ r. ⌜ Left at (readItems 8 18 pattern (now (levels .entry)) (drop at (bitList (now (bits .entry))))) r (now (levels .exit)) ⌝ }
+{
+    if chroma_class(pattern) == 2 {
+        return read_blocks(levels, bits, at, 264, 8, 1);
+    }
+    ListAnswer::End(at)
+}
+
+// All chroma lists that are coded.
+fn read_chroma(levels: &mut [i32], bits: &[u8], at: usize, pattern: u8) -> ListAnswer
+    requires { ⌜ (length (now levels) ≡ 392) × (length (now bits) < 2 ^ 61) ⌝ }
+    ensures { λ r. ⌜ Left at (readItems 10 16 pattern (now (levels .entry)) (drop at (bitList (now (bits .entry))))) r (now (levels .exit)) ⌝ }
+{
+    if chroma_class(pattern) == 0 {
+        return ListAnswer::End(at);
+    }
+    match read_dc(levels, bits, at) {
+        ListAnswer::End(next) => read_ac(levels, bits, next, pattern),
+        ListAnswer::Refused(r) => ListAnswer::Refused(r),
+    }
+}
+
+// All coded lists, each stored at its place.
 pub fn read_items(levels: &mut [i32], bits: &[u8], at: usize, pattern: u8) -> ListAnswer
     requires { ⌜ (length (now levels) ≡ 392) × (length (now bits) < 2 ^ 61) ⌝ }
     ensures { λ r. ⌜ Left at (readItems 26 0 pattern (now (levels .entry)) (drop at (bitList (now (bits .entry))))) r (now (levels .exit)) ⌝ }
 {
     let mut p = at;
-    let mut i = 0;
-    while i < 26 {
-        if item_coded(pattern, i) {
-            match read_item(levels, bits, p, i) {
-                ListAnswer::End(next) => {
-                    p = next;
-                    i += 1;
-                }
-                ListAnswer::Refused(r) => return ListAnswer::Refused(r),
+    let mut q = 0;
+    while q < 4 {
+        match read_quadrant(levels, bits, p, pattern, q) {
+            ListAnswer::End(next) => {
+                p = next;
+                q += 1;
             }
-        } else {
-            i = group_end(i);
+            ListAnswer::Refused(r) => return ListAnswer::Refused(r),
         }
     }
-    ListAnswer::End(p)
+    read_chroma(levels, bits, p, pattern)
 }

@@ -2,46 +2,81 @@
 -- Assumes nothing.
 use mathlib.Core.Path.{_≡_, refl, sym, ap, _∙_}
 use mathlib.Core.Bool.{Bool, true, false, _&&_}
-use mathlib.Core.List.{List, [], _∷_}
+use mathlib.Core.List.{List, [], _∷_, _++_, map}
 use mathlib.Core.Logic.{⊎-elim}
-use Prim.Native.Nat.{ℕ, zero, suc, _+_, _≤_, _<_}
+use Prim.Native.Nat.{ℕ, zero, suc, _+_, _-_, _*_, _%_, _≤_, _<_, min}
 use native.Mathlib.Numerals.{add-one}
 use native.Mathlib.Omega.{arith}
-use borrow.Author.Tests.{ltb-true}
-use lib.Dec.{ltb}
-use lib.IntN.{ℤ, pos}
-use lib.ListN.{length, getD, take, drop, set, length-set, length-drop}
-use lib.Seq.{sets, take-suc, length-take-le, getD-set-same, getD-set-other, getD-take, getD-drop}
+use borrow.Author.Tests.{leb-true, ltb-true, ltb-false, lt-ltb, le-ltb}
+use lib.Dec.{leb, ltb}
+use lib.IntN.{ℤ, pos, negsuc, _+ℤ_}
+use lib.ListN.{length, getD, take, drop, set, length-set, length-drop, length-map, List·getD-map}
+use lib.Seq.{sets, take-suc, length-take-le, getD-set-same, getD-set-other, getD-take, getD-drop, set-set}
+use Rattle.ints.specs.Z.{if_then_else_, clampZ}
+use Rattle.ints.proofs.Fits.{sub-ind}
 use Rattle.number.specs.Number.{number}
 use Rattle.number.specs.SignedNumber.{sent, signedNumber}
 use Rattle.number.proofs.Numbers.{lt-or-le, one-group}
 use Rattle.record.specs.Write.{signedNumbers}
 use Rattle.record.proofs.Sets.{sets-append}
-use Rattle.transcript.specs.Answers.{Written}
-use Rattle.transcript.specs.Short.{allShort, Sent}
+use Rattle.transcript.specs.Answers.{Written, Ahead}
+use Rattle.transcript.specs.Short.{nearOf, sentNear, allNear, Near}
 
 -- ---- the test
 pub both : (a b : Bool) → (a && b) ≡ true → (a ≡ true) × (b ≡ true)
 both true b e = (refl, e)
 both false b e = absurd (let z : _≡_ {A = ℕ} 0 1 = cc in omega arith)
 
-pub short-each : (l : List ℕ) (at n : ℕ) → allShort l at n ≡ true → (k : ℕ) → k < n → getD l (at + k) 0 < 128
-unfolding allShort
-short-each l at zero e k h = absurd (omega arith)
-short-each l at (suc n) e k h =
-    let b = both (allShort l at n) (ltb (getD l (at + n) 0) 128) e in
+pub near-each : (t : List ℕ) (n : ℕ) → allNear t n ≡ true → (k : ℕ) → k < n → (64 ≤ getD t k 0) × (getD t k 0 < 192)
+unfolding allNear
+near-each t zero e k h = absurd (omega arith)
+near-each t (suc n) e k h =
+    let a = both (allNear t n && leb 64 (getD t n 0)) (ltb (getD t n 0) 192) e in
+    let b = both (allNear t n) (leb 64 (getD t n 0)) (a .0) in
     ⊎-elim
-    (λ (i : k < n). short-each l at n (b .0) k i)
+    (λ (i : k < n). near-each t n (b .0) k i)
     (λ (i : n ≤ k).
     let j : k ≡ n = omega arith in
-    rw j (ltb-true (getD l (at + n) 0) 128 (b .1)))
+    rw j (leb-true 64 (getD t n 0) (b .1), ltb-true (getD t n 0) 192 (a .1)))
     (lt-or-le k n)
+
+-- ---- a number held in -128 to 127
+pub near-held : (z : ℤ) → clampZ (negsuc 127) (pos 127) z +ℤ pos 128 ≡ pos (nearOf z)
+unfolding clampZ nearOf if_then_else_
+near-held (pos n) = go (ltb 127 n) refl
+  where
+    go : (t : Bool) → ltb 127 n ≡ t → (if t then pos 127 else pos n) +ℤ pos 128 ≡ pos (128 + min n 127)
+    go true e = ap pos (omega (arith, ltb-true 127 n e))
+    go false e = ap pos (omega (arith, ltb-false 127 n e))
+near-held (negsuc n) = go (ltb 127 n) refl
+  where
+    go : (t : Bool) → ltb 127 n ≡ t → (if t then negsuc 127 else negsuc n) +ℤ pos 128 ≡ pos (127 - n)
+    go true e = ap pos (omega (arith, ltb-true 127 n e))
+    go false e = sub-ind (λ z. z ≡ pos (127 - n)) 128 (suc n) (λ k h. absurd (omega (arith, ltb-false 127 n e))) (λ k h. ap pos (omega (arith, ltb-false 127 n e)))
+
+pub near-small : (z : ℤ) → nearOf z < 256
+unfolding nearOf
+near-small (pos n) = omega arith
+near-small (negsuc n) = omega arith
+
+-- ---- what they are sent as
+near-sent : (z : ℤ) → 64 ≤ nearOf z → nearOf z < 192 → (sentNear (nearOf z) < 128) × (sentNear (nearOf z) ≡ sent z)
+unfolding nearOf sentNear sent if_then_else_
+near-sent (pos n) h k =
+    let m : min n 127 ≡ n = omega arith in
+    let r : (128 + n) % 128 ≡ n = omega arith in
+    let l : 2 * n < 128 = omega arith in
+    rw (m, r, lt-ltb (2 * n) 128 l) (l, refl)
+near-sent (negsuc n) h k =
+    let r : (127 - n) % 128 ≡ 127 - n = omega arith in
+    let l : 128 ≤ 2 * (127 - n) = omega arith in
+    rw (r, le-ltb (2 * (127 - n)) 128 l) (omega arith, omega arith)
 
 -- ---- written
 -- one more of them
-module _ {l : List ℤ} {first n : ℕ} {t : List ℕ} (s : Sent l first n t) where
-  pub sent-turn : (v : ℕ) → n < 16 → v ≡ sent (getD l (first + n) (pos 0)) → Sent l first (n + 1) (set t n v)
-  sent-turn v h e = record {
+module _ {l : List ℤ} {first n : ℕ} {t : List ℕ} (s : Near l first n t) where
+  pub near-turn : (v : ℕ) → n < 16 → v ≡ nearOf (getD l (first + n) (pos 0)) → Near l first (n + 1) (set t n v)
+  near-turn v h e = record {
     size = length-set t n v ∙ s .size;
     each = λ k i. ⊎-elim
         (λ (j : k < n). getD-set-other t n k v 0 (λ (x : k ≡ n). omega arith) ∙ s .each k j)
@@ -62,6 +97,11 @@ one-byte : (z : ℤ) (b : ℕ) → b < 128 → b ≡ sent z → signedNumber z �
 unfolding signedNumber number
 one-byte z b h e = rw (← e) (one-group 4 b h)
 
+-- the byte of each
+pub sent-at : (t : List ℕ) (k : ℕ) → getD (map sentNear t) k 0 ≡ sentNear (getD t k 0)
+unfolding sentNear if_then_else_
+sent-at t k = List·getD-map sentNear t k 0
+
 shorts : (zs : List ℤ) (bs : List ℕ) → length bs ≡ length zs → ((k : ℕ) → k < length zs → (getD bs k 0 < 128) × (getD bs k 0 ≡ sent (getD zs k (pos 0)))) → signedNumbers zs ≡ bs
 unfolding signedNumbers
 shorts [] [] e h = refl
@@ -71,23 +111,56 @@ shorts (z ∷ zs) (b ∷ bs) e h =
     let o = h 0 (omega arith) in
     rw (one-byte z b (o .0) (o .1), shorts zs bs (omega arith) (λ k i. h (suc k) (omega arith)))
 
--- SHORT NUMBERS ARE THE LIST OF WHAT THEY ARE SENT AS
-pub short-numbers : (l : List ℤ) (first n : ℕ) (t : List ℕ) → first + n ≤ length l → n ≤ 16 → Sent l first n t → allShort t 0 n ≡ true → signedNumbers (take n (drop first l)) ≡ take n t
-short-numbers l first n t h m s e =
-    let a : length (take n (drop first l)) ≡ n = length-take-le n (drop first l) (omega (arith, length-drop first l)) in
-    let b : length (take n t) ≡ n = length-take-le n t (omega (arith, s .size)) in
-    shorts (take n (drop first l)) (take n t) (b ∙ sym a) (λ k i.
-    let j : k < n = omega arith in
-    let x : 0 + k ≡ k = omega arith in
-    let y = rw x at (short-each t 0 n e k j) in
-    rw (getD-take n t k 0 j, getD-take n (drop first l) k (pos 0) j, getD-drop first l k (pos 0)) (y, s .each k j))
+-- NUMBERS FROM -64 TO 63 ARE THE LIST OF WHAT THEY ARE SENT AS
+module _ (l : List ℤ) (first n : ℕ) (t : List ℕ) (h : first + n ≤ length l) (m : n ≤ 16) (s : Near l first n t) (e : allNear t n ≡ true) where
+  pub near-numbers : signedNumbers (take n (drop first l)) ≡ take n (map sentNear t)
+  near-numbers =
+      let a : length (take n (drop first l)) ≡ n = length-take-le n (drop first l) (omega (arith, length-drop first l)) in
+      let b : length (take n (map sentNear t)) ≡ n = length-take-le n (map sentNear t) (omega (arith, s .size, length-map t sentNear)) in
+      shorts (take n (drop first l)) (take n (map sentNear t)) (b ∙ sym a) (λ k i.
+      let j : k < n = omega arith in
+      let r = near-each t n e k j in
+      let y = near-sent (getD l (first + k) (pos 0)) (rw (← s .each k j) (r .0)) (rw (← s .each k j) (r .1)) in
+      rw (getD-take n (map sentNear t) k 0 j, getD-take n (drop first l) k (pos 0) j, getD-drop first l k (pos 0), sent-at t k, s .each k j) y)
 
-module _ (l : List ℤ) (first n : ℕ) (t out : List ℕ) (at : ℕ) (h : first + n ≤ length l) (m : n ≤ 16) (s : Sent l first n t) (e : allShort t 0 n ≡ true) where
-  count-is : length (signedNumbers (take n (drop first l))) ≡ n
-  count-is = ap length (short-numbers l first n t h m s e) ∙ length-take-le n t (omega (arith, s .size))
+  near-count : length (signedNumbers (take n (drop first l))) ≡ n
+  near-count = ap length near-numbers ∙ length-take-le n (map sentNear t) (omega (arith, s .size, length-map t sentNear))
 
-  pub short-fits : at + length (signedNumbers (take n (drop first l))) ≤ length out → at + n ≤ length out
-  short-fits k = omega (arith, count-is)
+  module _ (out : List ℕ) (at : ℕ) where
+    pub near-fits : at + length (signedNumbers (take n (drop first l))) ≤ length out → at + n ≤ length out
+    near-fits k = omega (arith, near-count)
 
-  pub short-written : {left : List ℕ} → left ≡ sets out at (take n t) → Written out at (signedNumbers (take n (drop first l))) (at + n) left
-  short-written w = record { moved = omega (arith, count-is); leaves = w ∙ ap (sets out at) (sym (short-numbers l first n t h m s e)) }
+    pub near-written : {left : List ℕ} → left ≡ sets out at (take n (map sentNear t)) → Written out at (signedNumbers (take n (drop first l))) (at + n) left
+    near-written w = record { moved = omega (arith, near-count); leaves = w ∙ ap (sets out at) (sym near-numbers) }
+
+-- with one more behind them
+module _ (l : List ℤ) (first n : ℕ) (t : List ℕ) (h : first + n < length l) (m : n < 16) (s : Near l first (n + 1) t) (e : allNear t (n + 1) ≡ true) where
+  fewer : Near l first n t
+  fewer = record { size = s .size; each = λ k i. s .each k (omega arith) }
+
+  fewer-near : allNear t n ≡ true
+  unfolding allNear
+  fewer-near =
+      let f = rw (add-one n) at e in
+      both (allNear t n) (leb 64 (getD t n 0)) (both (allNear t n && leb 64 (getD t n 0)) (ltb (getD t n 0) 192) f .0) .0
+
+  few : length (take n (map sentNear t)) ≡ n
+  few = length-take-le n (map sentNear t) (omega (arith, s .size, length-map t sentNear))
+
+  numbers-are : signedNumbers (take n (drop first l)) ≡ take n (map sentNear t)
+  numbers-are = near-numbers l first n t (omega arith) (omega arith) fewer fewer-near
+
+  module _ (out : List ℕ) (at : ℕ) where
+    pub ahead-fits : at + length (signedNumbers (take n (drop first l))) < length out → at + (n + 1) ≤ length out
+    ahead-fits k = omega (arith, ap length numbers-are ∙ few)
+
+    pub near-ahead : {left : List ℕ} → left ≡ sets out at (take (n + 1) (map sentNear t)) → Ahead out at (signedNumbers (take n (drop first l))) (at + n) left
+    near-ahead {left} w =
+        let x = sets out at (take n (map sentNear t)) in
+        let v = getD (map sentNear t) n 0 in
+        let stored : left ≡ set x (at + n) v = w ∙ sym (stored-turn 0 out at (map sentNear t) n (omega (arith, s .size, length-map t sentNear))) in
+        record {
+          moved = omega (arith, ap length numbers-are ∙ few);
+          leaves = λ b rest. ap (λ (o : List ℕ). sets o (at + n) (b ∷ rest)) stored ∙ ap (λ (o : List ℕ). sets o (suc (at + n)) rest) (set-set x (at + n) v b)
+              ∙ ap (λ (k : ℕ). sets x (at + k) (b ∷ rest)) (sym few) ∙ sym (sets-append out at (take n (map sentNear t)) (b ∷ rest)) ∙ ap (λ (bytes : List ℕ). sets out at (bytes ++ b ∷ rest)) (sym numbers-are);
+        }

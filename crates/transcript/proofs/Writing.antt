@@ -10,29 +10,43 @@ use borrow.Author.Tests.{eq-eqb, ne-eqb}
 use lib.Dec.{eqb}
 use lib.IntN.{ℤ, pos}
 use lib.ListN.{length, getD, take, drop, length-append}
-use lib.Seq.{sets, length-sets, drop-cons, drop-drop}
+use lib.Seq.{sets, length-sets, drop-cons, drop-drop, take-add}
 use Rattle.ints.specs.Z.{if_then_else_}
 use Rattle.number.specs.Number.{number}
-use Rattle.number.specs.SignedNumber.{signedNumber}
+use Rattle.number.specs.SignedNumber.{sent, signedNumber}
+use Rattle.number.proofs.Numbers.{number-length}
+use Rattle.residual.specs.Book.{positions}
+use Rattle.residual.specs.Pattern.{classOf}
+use Rattle.residual.specs.declared.svq3_coeff.ResidualBook.{ResidualBook}
+use Rattle.residual.specs.declared.svq3_coeff.ResidualBook.the-variants.{ChromaDc}
 use Rattle.vectors.specs.Modes.{numMotionVectors}
 use Rattle.record.specs.Record.{Record, skipRecord}
 use Rattle.record.proofs.Lengths.{record-length}
-use Rattle.record.specs.Items.{itemCoded, Group, itemStart, itemCount, itemPlace, itemLevels, writeLists}
+use Rattle.record.specs.Items.{writeLists}
 use Rattle.record.specs.Write.{signedNumbers, itemBytes, itemsBytes, restBytes, recordBytes}
-use Rattle.transcript.specs.Answers.{Written}
+use Rattle.record.specs.Sides.{sideBytes}
+use Rattle.transcript.specs.Answers.{Written, Ahead}
 use Rattle.record.proofs.Turns.{when-true, when-false}
-use Rattle.record.proofs.Sets.{sets-append, drop-of-take}
-use Rattle.record.proofs.ListKinds.{is-luma, is-dc, is-ac}
-use Rattle.record.proofs.Lists.{within}
-use Rattle.record.proofs.Walks.{group-passed}
+use Rattle.record.proofs.Sets.{sets-append}
+use Rattle.record.proofs.Sides.{write-parts, dc-side, ac-side, dc-place, no-class, some-class, side-written, side-unwritten}
 
 -- ---- one part after another
+pub written-ahead : {out : List ℕ} {at : ℕ} {bytes : List ℕ} {next : ℕ} {left : List ℕ} → Written out at bytes next left → Ahead out at bytes next left
+written-ahead {out} {at} {bytes} {next} {left} w =
+    record {
+      moved = w .moved;
+      leaves = λ b rest. ap (λ (l : List ℕ). sets l next (b ∷ rest)) (w .leaves) ∙ ap (λ (n : ℕ). sets (sets out at bytes) n (b ∷ rest)) (w .moved) ∙ sym (sets-append out at bytes (b ∷ rest));
+    }
+
 pub written-on : {out mid left : List ℕ} {at p next : ℕ} {a b : List ℕ} → Written out at a p mid → Written mid p b next left → Written out at (a ++ b) next left
 written-on {out} {mid} {left} {at} {p} {next} {a} {b} v w =
     record {
       moved = omega (arith, v .moved, w .moved, length-append a b);
       leaves = w .leaves ∙ ap (λ (l : List ℕ). sets l p b) (v .leaves) ∙ ap (λ (n : ℕ). sets (sets out at a) n b) (v .moved) ∙ sym (sets-append out at a b);
     }
+
+pub written-none : (out : List ℕ) (at : ℕ) (bytes : List ℕ) → bytes ≡ [] → Written out at bytes at out
+written-none out at bytes e = record { moved = omega (arith, ap length e); leaves = ap (sets out at) (sym e) }
 
 -- ---- a loop: to write `rest` at p is what is left of writing the whole
 pub record Still (out₀ : List ℕ) (at : ℕ) (bytes : List ℕ) (out : List ℕ) (p : ℕ) (rest : List ℕ) : Type 0 where
@@ -56,6 +70,30 @@ module _ {out₀ : List ℕ} {at : ℕ} {bytes out : List ℕ} {p : ℕ} {rest :
   -- the part has room
   pub still-fits : (a b : List ℕ) → rest ≡ a ++ b → at + length bytes ≤ length out₀ → p + length a ≤ length out
   still-fits a b e h = omega (arith, s .moved, s .same, ap length e ∙ length-append a b)
+
+  -- and a byte behind it, where there is one to write
+  pub still-fits-more : (a b : List ℕ) → rest ≡ a ++ b → 0 < length b → at + length bytes ≤ length out₀ → p + length a < length out
+  still-fits-more a b e k h = omega (arith, s .moved, s .same, ap length e ∙ length-append a b)
+
+  -- a part of it is written, and perhaps one byte behind it, which is still to be written
+  pub still-ahead : {a b : List ℕ} {next : ℕ} {left : List ℕ} → rest ≡ a ++ b → 0 < length b → Ahead out p a next left → length left ≡ length out → Still out₀ at bytes left next b
+  still-ahead {a} {b} {next} {left} e h w n =
+      record {
+        moved = omega (arith, w .moved, s .moved, ap length e ∙ length-append a b);
+        leaves = over b h ∙ ap (sets out p) (sym e) ∙ s .leaves;
+        same = n ∙ s .same;
+      }
+    where
+      over : (b : List ℕ) → 0 < length b → sets left next b ≡ sets out p (a ++ b)
+      over [] h = absurd (omega arith)
+      over (x ∷ b) h = w .leaves x b
+
+  -- all of it has room, and is written
+  pub still-room : at + length bytes ≤ length out₀ → p + length rest ≤ length out
+  still-room h = omega (arith, s .moved, s .same)
+
+  pub still-last : {next : ℕ} {left : List ℕ} → Written out p rest next left → Written out₀ at bytes next left
+  still-last {next} {left} w = record { moved = w .moved ∙ s .moved; leaves = w .leaves ∙ s .leaves }
 
   pub still-none : rest ≡ [] → Written out₀ at bytes p out
   still-none e = record { moved = omega (arith, s .moved, ap length e); leaves = ap (sets out p) (sym e) ∙ s .leaves }
@@ -115,64 +153,81 @@ no-numbers xs first count i h =
     let e : count - i ≡ 0 = omega arith in
     rw e
 
--- ---- lists
-module _ (levels : List ℤ) where
-  item-bytes : (i start count place : ℕ) → start ≡ itemStart i → count ≡ itemCount i → place ≡ itemPlace i → itemBytes i (itemLevels levels i) ≡ signedNumbers (take (count - start) (drop (place + start) levels))
-  unfolding itemBytes itemLevels
-  item-bytes i start count place s n p =
-      rw (s, n, p) (ap signedNumbers (drop-of-take (itemStart i) (itemCount i) (drop (itemPlace i) levels) ∙ ap (take (itemCount i - itemStart i)) (drop-drop (itemStart i) (itemPlace i) levels)))
+in-parts : (ys zs : List ℤ) → signedNumbers (ys ++ zs) ≡ signedNumbers ys ++ signedNumbers zs
+unfolding signedNumbers
+in-parts [] zs = refl
+in-parts (y ∷ ys) zs = ap (λ (l : List ℕ). signedNumber y ++ l) (in-parts ys zs) ∙ sym (append-assoc (signedNumber y) (signedNumbers ys) (signedNumbers zs))
 
-  -- list i is the n numbers from `first` on
-  pub record Stands (i first n : ℕ) : Type 0 where
-    pub few : n ≤ 16
-    pub inside : first + n ≤ 392
-    pub bytes : itemBytes i (itemLevels levels i) ≡ signedNumbers (take n (drop first levels))
+-- n numbers, then m
+pub numbers-parts : (n m first : ℕ) (xs : List ℤ) → signedNumbers (take (n + m) (drop first xs)) ≡ signedNumbers (take n (drop first xs)) ++ signedNumbers (take m (drop (first + n) xs))
+numbers-parts n m first xs =
+    ap signedNumbers (take-add n m (drop first xs)) ∙ in-parts (take n (drop first xs)) (take m (drop n (drop first xs))) ∙ ap (λ (l : List ℤ). signedNumbers (take n (drop first xs)) ++ signedNumbers (take m l)) (drop-drop n first xs)
 
-  module _ (i place : ℕ) (h : i < 26) (p : place ≡ itemPlace i) where
-    pub luma-stands : i < 16 → Stands i place 16
-    luma-stands k =
-        let a = is-luma i k in
-        let z : place + 0 ≡ place = omega arith in
-        record { few = omega arith; inside = omega (arith, within i h, a .count); bytes = rw z at (item-bytes i 0 16 place (sym (a .start)) (sym (a .count)) p) }
+-- ---- lists side by side
+module _ (book : ResidualBook) (start : ℕ) (ls : List ℤ) where
+  -- the bytes of one
+  abbrev pub oneList : ℕ → List ℕ
+  oneList place = signedNumbers (take (positions book - start) (drop (place + start) ls))
 
-    pub dc-stands : 16 ≤ i → i < 18 → Stands i place 4
-    dc-stands j k =
-        let a = is-dc i j k in
-        let z : place + 0 ≡ place = omega arith in
-        record { few = omega arith; inside = omega (arith, within i h, a .count); bytes = rw z at (item-bytes i 0 4 place (sym (a .start)) (sym (a .count)) p) }
-
-    pub ac-stands : 18 ≤ i → Stands i (place + 1) 15
-    ac-stands k =
-        let a = is-ac i k in
-        record { few = omega arith; inside = omega (arith, within i h, a .count); bytes = item-bytes i 1 16 place (sym (a .start)) (sym (a .count)) p }
-
-module _ (pattern : ℕ) (levels : List ℤ) where
   -- the first of those that are left
-  first-item : (i : ℕ) → i < 26 → itemCoded pattern i ≡ true → itemsBytes (26 - i) i pattern levels ≡ itemBytes i (itemLevels levels i) ++ itemsBytes (26 - (i + 1)) (i + 1) pattern levels
-  unfolding itemsBytes writeLists
-  first-item i h t =
-      let e : 26 - i ≡ suc (26 - (i + 1)) = omega arith in
-      rw (e, add-one i) (ap (λ (l : List ℕ). l ++ writeLists itemBytes (26 - suc i) (suc i) pattern levels) (when-true (itemCoded pattern i) (itemBytes i (itemLevels levels i)) [] t))
+  pub first-list : (place count i size : ℕ) → size ≡ positions book → i < count
+      → sideBytes book start (count - i) (place + size * i) ls ≡ oneList (place + size * i) ++ sideBytes book start (count - (i + 1)) (place + size * (i + 1)) ls
+  unfolding sideBytes
+  first-list place count i size e h =
+      let n : count - i ≡ suc (count - (i + 1)) = omega arith in
+      let on : place + size * i + size ≡ place + size * (i + 1) = omega arith in
+      rw n (ap (λ (k : ℕ). oneList (place + size * i) ++ sideBytes book start (count - (i + 1)) k ls) (ap (λ (k : ℕ). place + size * i + k) (sym e) ∙ on))
 
-  one-passed : (n i : ℕ) → itemCoded pattern i ≡ false → itemsBytes (suc n) i pattern levels ≡ itemsBytes n (suc i) pattern levels
-  unfolding itemsBytes writeLists
-  one-passed n i t = ap (λ (l : List ℕ). l ++ writeLists itemBytes n (suc i) pattern levels) (when-false (itemCoded pattern i) (itemBytes i (itemLevels levels i)) [] t)
-
-  module _ (i : ℕ) {out₀ : List ℕ} {at : ℕ} {bytes out : List ℕ} {p : ℕ} (s : Still out₀ at bytes out p (itemsBytes (26 - i) i pattern levels)) where
-    pub item-fits : i < 26 → itemCoded pattern i ≡ true → at + length bytes ≤ length out₀ → p + length (itemBytes i (itemLevels levels i)) ≤ length out
-    item-fits h t = still-fits s (itemBytes i (itemLevels levels i)) (itemsBytes (26 - (i + 1)) (i + 1) pattern levels) (first-item i h t)
-
-    pub item-more : i < 26 → itemCoded pattern i ≡ true → (next : ℕ) (left : List ℕ) → Written out p (itemBytes i (itemLevels levels i)) next left → Still out₀ at bytes left next (itemsBytes (26 - (i + 1)) (i + 1) pattern levels)
-    item-more h t next left w = still-more s (first-item i h t) w
-
-    pub items-passed : {e : ℕ} → Group i e → itemCoded pattern i ≡ false → Still out₀ at bytes out p (itemsBytes (26 - e) e pattern levels)
-    items-passed g t = rw (← group-passed pattern (λ n j. itemsBytes n j pattern levels) one-passed g t) s
-
-  pub no-item : (i : ℕ) → 26 ≤ i → itemsBytes (26 - i) i pattern levels ≡ []
-  unfolding itemsBytes writeLists
-  no-item i h =
-      let e : 26 - i ≡ 0 = omega arith in
+  pub no-list : (place count i : ℕ) → count ≤ i → sideBytes book start (count - i) place ls ≡ []
+  unfolding sideBytes
+  no-list place count i h =
+      let e : count - i ≡ 0 = omega arith in
       rw e
+
+  -- a list has a byte at least
+  pub some-list : (place count : ℕ) → start < positions book → place + start < length ls → 0 < count → 0 < length (sideBytes book start count place ls)
+  unfolding sideBytes signedNumbers signedNumber
+  some-list place count h k z =
+      let v = getD ls (place + start) (pos 0) in
+      let c : count ≡ suc (count - 1) = omega arith in
+      let n : positions book - start ≡ suc (positions book - start - 1) = omega arith in
+      rw (c, n, drop-cons ls (place + start) (pos 0) k)
+      (omega (arith, number-length (sent v) .0, length-append (signedNumber v) (signedNumbers (take (positions book - start - 1) (drop (suc (place + start)) ls))), length-append (signedNumber v ++ signedNumbers (take (positions book - start - 1) (drop (suc (place + start)) ls))) (sideBytes book start (count - 1) (place + positions book) ls)))
+
+-- Cb DC and Cr DC are eight numbers in a row
+pub both-dc : (ls : List ℤ) → sideBytes ChromaDc 0 2 256 ls ≡ signedNumbers (take 8 (drop 256 ls))
+unfolding sideBytes
+both-dc ls = ap (λ (l : List ℕ). signedNumbers (take 4 (drop 256 ls)) ++ l) (append-nil (signedNumbers (take 4 (drop 260 ls)))) ∙ sym (numbers-parts 4 4 256 ls)
+
+-- ---- the groups
+module _ (pattern : ℕ) (ls : List ℤ) where
+  -- quadrant q, then what is behind it
+  pub quadrant-bytes : (q : ℕ) → q < 4 → itemsBytes (26 - 4 * q) (4 * q) pattern ls ≡ itemsBytes 4 (4 * q) pattern ls ++ itemsBytes (26 - 4 * (q + 1)) (4 * (q + 1)) pattern ls
+  unfolding itemsBytes
+  quadrant-bytes q h =
+      let n : 26 - 4 * q ≡ 4 + (26 - 4 * (q + 1)) = omega arith in
+      let on : 4 * q + 4 ≡ 4 * (q + 1) = omega arith in
+      rw n (write-parts itemBytes pattern 4 (26 - 4 * (q + 1)) (4 * q) ls ∙ ap (λ (k : ℕ). writeLists itemBytes 4 (4 * q) pattern ls ++ writeLists itemBytes (26 - 4 * (q + 1)) k pattern ls) on)
+
+  -- chroma DC, then chroma AC
+  chroma-bytes : itemsBytes 10 16 pattern ls ≡ itemsBytes 2 16 pattern ls ++ itemsBytes 8 18 pattern ls
+  unfolding itemsBytes
+  chroma-bytes = write-parts itemBytes pattern 2 8 16 ls
+
+  pub no-chroma-bytes : classOf pattern ≡ 0 → itemsBytes 10 16 pattern ls ≡ []
+  no-chroma-bytes e =
+      let n = no-class pattern e in
+      chroma-bytes ∙ rw (side-unwritten dc-side pattern (n .0) ls, side-unwritten ac-side pattern (n .1) ls)
+
+  dc-bytes : (classOf pattern ≡ 0 → ⊥) → itemsBytes 10 16 pattern ls ≡ signedNumbers (take 8 (drop 256 ls)) ++ itemsBytes 8 18 pattern ls
+  dc-bytes e = chroma-bytes ∙ ap (λ (l : List ℕ). l ++ itemsBytes 8 18 pattern ls) (side-written dc-side pattern (some-class pattern e) 256 dc-place ls ∙ both-dc ls)
+
+  -- chroma DC is written
+  pub dc-fits : (out : List ℕ) (at : ℕ) → (classOf pattern ≡ 0 → ⊥) → at + length (itemsBytes 10 16 pattern ls) ≤ length out → at + length (signedNumbers (take 8 (drop 256 ls))) ≤ length out
+  dc-fits out at e h = omega (arith, ap length (dc-bytes e) ∙ length-append (signedNumbers (take 8 (drop 256 ls))) (itemsBytes 8 18 pattern ls))
+
+  pub dc-still : {out mid : List ℕ} {at p : ℕ} → (classOf pattern ≡ 0 → ⊥) → Written out at (signedNumbers (take 8 (drop 256 ls))) p mid → Still out at (itemsBytes 10 16 pattern ls) mid p (itemsBytes 8 18 pattern ls)
+  dc-still {out} {mid} {at} e w = still-more (still-all out at (itemsBytes 10 16 pattern ls) (itemsBytes 10 16 pattern ls) refl) (dc-bytes e) w
 
 -- ---- a record
 pub rest-parts : (r : Record) → restBytes r ≡ joined (number (r .head .precision) ∷ number (r .head .clipped) ∷ signedNumbers (take (2 * numMotionVectors (r .head .mode)) (r .vectors))

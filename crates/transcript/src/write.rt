@@ -1,22 +1,22 @@
 // A record is written to the transcript.
 ghost use mathlib.Core.Path.{_≡_};
-ghost use mathlib.Core.Bool.{true};
-ghost use Prim.Native.Nat.{_+_, _≤_, _<_};
+ghost use mathlib.Core.List.{map};
+ghost use Prim.Native.Nat.{_+_, _*_, _≤_, _<_};
 ghost use lib.ListN.{length, take, drop};
 ghost use lib.Seq.{sets};
-ghost use Rattle.record.specs.Items.{itemLevels};
-ghost use Rattle.record.specs.Write.{signedNumbers, itemBytes, itemsBytes, restBytes, recordBytes};
+ghost use Rattle.record.specs.Write.{signedNumbers, itemsBytes, restBytes, recordBytes};
+ghost use Rattle.record.specs.Sides.{sideBytes};
 ghost use Rattle.record.specs.Record.{recordOf, skipRecord};
-ghost use Rattle.transcript.specs.Answers.{Written};
-ghost use Rattle.transcript.specs.Short.{allShort, Sent};
+ghost use Rattle.transcript.specs.Answers.{Written, Ahead};
+ghost use Rattle.transcript.specs.Short.{nearOf, sentNear, allNear, Near};
 ghost use Rattle.record.specs.Range.{HeadRange};
+use ints::clamp_i32;
 use number::put_number;
 use number::put_signed_number;
-use number::sent_of;
 use record::Head;
-use record::items::group_end;
-use record::items::item_coded;
-use record::items::item_place;
+use residual::svq3_cbp::chroma_class;
+use residual::svq3_cbp::luma_quadrant_coded;
+use residual::svq3_coeff::ResidualBook;
 use vectors::svq3_mb::num_motion_vectors;
 
 // `count` signed numbers from the place `first` on, one after another.
@@ -39,42 +39,57 @@ fn put_signed_numbers(
     p
 }
 
-// What `count` numbers from the place `first` on are sent as: the first of sixteen.
-fn take_sent(numbers: &[i32], first: usize, count: usize) -> [u32; 16]
-    requires { ⌜ (count ≤ 16) × (first + count ≤ length (now numbers)) ⌝ }
-    ensures { λ r. ⌜ Sent (now (numbers .entry)) first count r ⌝ }
+// A number held in -128 to 127, and counted from -128 on.
+fn near_of(v: i32) -> u8
+    ensures { λ r. ⌜ r ≡ nearOf v ⌝ }
 {
-    let mut t = [0u32; 16];
+    (clamp_i32(v, -128, 127) + 128) as u8
+}
+
+// What a number from -64 to 63 is sent as, by its `near_of`.
+fn sent_near(near: u8) -> u8
+    ensures { λ r. ⌜ r ≡ sentNear near ⌝ }
+{
+    let twice = 2 * (near % 128);
+    if twice < 128 { twice } else { 255 - twice }
+}
+
+// `near_of` of `count` numbers from the place `first` on: the first of sixteen. Each is a byte, so that the compiler has sixteen in a register.
+fn take_near(numbers: &[i32], first: usize, count: usize) -> [u8; 16]
+    requires { ⌜ (count ≤ 16) × (first + count ≤ length (now numbers)) ⌝ }
+    ensures { λ r. ⌜ Near (now (numbers .entry)) first count r ⌝ }
+{
+    let mut t = [0u8; 16];
     let mut i = 0;
     while i < count {
         let v = numbers[first + i];
-        t[i] = sent_of(v);
+        t[i] = near_of(v);
         i += 1;
     }
     t
 }
 
 // Whether each of the first `count` is a byte by itself, as numbers from -64 to 63 are.
-fn all_short(t: &[u32; 16], count: usize) -> bool
+fn all_short(t: &[u8; 16], count: usize) -> bool
     requires { ⌜ count ≤ 16 ⌝ }
-    ensures { λ r. ⌜ r ≡ allShort (now (t .entry)) 0 count ⌝ }
+    ensures { λ r. ⌜ r ≡ allNear (now (t .entry)) count ⌝ }
 {
     let mut short = true;
     let mut i = 0;
     while i < count {
-        short = short & (t[i] < 128);
+        short = short & (64 <= t[i]) & (t[i] < 192);
         i += 1;
     }
     short
 }
 
-fn put_short(out: &mut [u8], t: &[u32; 16], at: usize, count: usize)
-    requires { ⌜ (count ≤ 16) × (allShort (now t) 0 count ≡ true) × (length (now t) ≡ 16) × (at + count ≤ length (now out)) ⌝ }
-    ensures { λ _. ⌜ now (out .exit) ≡ sets (now (out .entry)) at (take count (now (t .entry))) ⌝ }
+fn put_short(out: &mut [u8], t: &[u8; 16], at: usize, count: usize)
+    requires { ⌜ (count ≤ 16) × (length (now t) ≡ 16) × (at + count ≤ length (now out)) ⌝ }
+    ensures { λ _. ⌜ now (out .exit) ≡ sets (now (out .entry)) at (take count (map sentNear (now (t .entry)))) ⌝ }
 {
     let mut i = 0;
     while i < count {
-        out[at + i] = t[i] as u8;
+        out[at + i] = sent_near(t[i]);
         i += 1;
     }
 }
@@ -84,7 +99,7 @@ fn put_list(out: &mut [u8], numbers: &[i32], at: usize, first: usize, count: usi
     requires { ⌜ (count ≤ 16) × (first + count ≤ length (now numbers)) × (at + length (signedNumbers (take count (drop first (now numbers)))) ≤ length (now out)) ⌝ }
     ensures { λ r. ⌜ Written (now (out .entry)) at (signedNumbers (take count (drop first (now (numbers .entry))))) r (now (out .exit)) ⌝ }
 {
-    let t = take_sent(numbers, first, count);
+    let t = take_near(numbers, first, count);
     if all_short(&t, count) {
         put_short(out, &t, at, count);
         return at + count;
@@ -92,20 +107,73 @@ fn put_list(out: &mut [u8], numbers: &[i32], at: usize, first: usize, count: usi
     put_signed_numbers(out, numbers, at, first, count)
 }
 
-// The levels of list i. The counts are literals, so that the compiler knows each loop's length.
-fn put_item(out: &mut [u8], levels: &[i32], at: usize, i: usize) -> usize
-    requires { ⌜ (i < 26) × (length (now levels) ≡ 392) × (at + length (itemBytes i (itemLevels (now levels) i)) ≤ length (now out)) ⌝ }
-    ensures { λ r. ⌜ Written (now (out .entry)) at (itemBytes i (itemLevels (now (levels .entry)) i)) r (now (out .exit)) ⌝ }
+// 15 signed numbers, and where they are short the one behind them too, over which the next byte is written: sixteen bytes are stored at once.
+fn put_list_ahead(out: &mut [u8], numbers: &[i32], at: usize, first: usize, count: usize) -> usize
+    requires { ⌜ (count < 16) × (first + count < length (now numbers)) × (at + length (signedNumbers (take count (drop first (now numbers)))) < length (now out)) ⌝ }
+    ensures { λ r. ⌜ Ahead (now (out .entry)) at (signedNumbers (take count (drop first (now (numbers .entry))))) r (now (out .exit)) ⌝ }
 {
-    let place = item_place(i);
-    if i < 16 {
-        return put_list(out, levels, at, place, 16);
+    let t = take_near(numbers, first, count + 1);
+    if all_short(&t, count + 1) {
+        put_short(out, &t, at, count + 1);
+        return at + count;
     }
-    if i < 18 {
-        return put_list(out, levels, at, place, 4);
+    put_signed_numbers(out, numbers, at, first, count)
+}
+
+// The four lists of a luma quadrant, which stand side by side from `place` on.
+fn put_blocks(out: &mut [u8], levels: &[i32], at: usize, place: usize) -> usize
+    requires { ⌜ (place + 64 ≤ length (now levels)) × (at + length (sideBytes ResidualBook.NormalScan 0 4 place (now levels)) ≤ length (now out)) ⌝ }
+    ensures { λ r. ⌜ Written (now (out .entry)) at (sideBytes ResidualBook.NormalScan 0 4 place (now (levels .entry))) r (now (out .exit)) ⌝ }
+{
+    let mut p = at;
+    let mut i = 0;
+    while i < 4 {
+        p = put_list(out, levels, p, place + 16 * i, 16);
+        i += 1;
     }
-    // an AC list has no place 0
-    put_list(out, levels, at, place + 1, 15)
+    p
+}
+
+// The eight chroma AC lists, which have no place 0.
+fn put_ac(out: &mut [u8], levels: &[i32], at: usize) -> usize
+    requires { ⌜ (length (now levels) ≡ 392) × (at + length (sideBytes ResidualBook.NormalScan 1 8 264 (now levels)) ≤ length (now out)) ⌝ }
+    ensures { λ r. ⌜ Written (now (out .entry)) at (sideBytes ResidualBook.NormalScan 1 8 264 (now (levels .entry))) r (now (out .exit)) ⌝ }
+{
+    let mut p = at;
+    let mut i = 0;
+    while i < 7 {
+        p = put_list_ahead(out, levels, p, 265 + 16 * i, 15);
+        i += 1;
+    }
+    put_list(out, levels, p, 377, 15)
+}
+
+// The lists of luma quadrant q, where they are coded.
+fn put_quadrant(out: &mut [u8], levels: &[i32], at: usize, pattern: u8, q: usize) -> usize
+    requires { ⌜ (length (now levels) ≡ 392) × (q < 4) × (at + length (itemsBytes 4 (4 * q) pattern (now levels)) ≤ length (now out)) ⌝ }
+    ensures { λ r. ⌜ Written (now (out .entry)) at (itemsBytes 4 (4 * q) pattern (now (levels .entry))) r (now (out .exit)) ⌝ }
+{
+    if luma_quadrant_coded(pattern, q as u32) {
+        return put_blocks(out, levels, at, 64 * q);
+    }
+    at
+}
+
+// The chroma lists that are coded.
+fn put_chroma(out: &mut [u8], levels: &[i32], at: usize, pattern: u8) -> usize
+    requires { ⌜ (length (now levels) ≡ 392) × (at + length (itemsBytes 10 16 pattern (now levels)) ≤ length (now out)) ⌝ }
+    ensures { λ r. ⌜ Written (now (out .entry)) at (itemsBytes 10 16 pattern (now (levels .entry))) r (now (out .exit)) ⌝ }
+{
+    let class = chroma_class(pattern);
+    if class == 0 {
+        return at;
+    }
+    // Cb DC and Cr DC stand side by side
+    let p = put_list(out, levels, at, 256, 8);
+    if class == 2 {
+        return put_ac(out, levels, p);
+    }
+    p
 }
 
 fn put_items(out: &mut [u8], levels: &[i32], at: usize, pattern: u8) -> usize
@@ -113,16 +181,12 @@ fn put_items(out: &mut [u8], levels: &[i32], at: usize, pattern: u8) -> usize
     ensures { λ r. ⌜ Written (now (out .entry)) at (itemsBytes 26 0 pattern (now (levels .entry))) r (now (out .exit)) ⌝ }
 {
     let mut p = at;
-    let mut i = 0;
-    while i < 26 {
-        if item_coded(pattern, i) {
-            p = put_item(out, levels, p, i);
-            i += 1;
-        } else {
-            i = group_end(i);
-        }
+    let mut q = 0;
+    while q < 4 {
+        p = put_quadrant(out, levels, p, pattern, q);
+        q += 1;
     }
-    p
+    put_chroma(out, levels, p, pattern)
 }
 
 // What follows the mode of a record that is no skip.

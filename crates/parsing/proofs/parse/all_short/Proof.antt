@@ -3,7 +3,7 @@ use mathlib.Core.Path.{_≡_, refl}
 use Prim.Native.Nat.{_≤_, _-_}
 use native.Mathlib.Numerals.{add-one}
 use native.Mathlib.Omega.{arith}
-use Rattle.transcript.specs.Short.{allShort}
+use Rattle.parsing.specs.Short.{allShort}
 use Rattle.parsing.proofs.parse.all_short.Statement.{statement}
 use Rattle.parsing.proofs.parse.all_short.Tie as tie
 

@@ -1,59 +1,59 @@
 -- `record::items::read_items`: what is still to be read, joined to what was read, is the whole.
 use mathlib.Core.Path.{_≡_, sym, _∙_}
-use Prim.Native.Nat.{_-_}
+use Prim.Native.Nat.{_+_, _-_, _*_, _≤_}
 use native.Mathlib.Omega.{arith}
 use borrow.Author.Needs.{needs}
-use lib.ListN.{length}
+use lib.ListN.{length, drop}
 use Rattle.bits.specs.Bits.{bitList}
-use Rattle.record.specs.Items.{readItem, readItems}
-use Rattle.record.proofs.Walks.{Going, begins, goes-on, stops, passes, ends}
+use Rattle.record.specs.Items.{readItems}
+use Rattle.record.proofs.Walks.{Rest, rest-all, rest-on, rest-stops, rest-last}
+use Rattle.record.proofs.Sides.{quadrant-first}
 use Rattle.record.proofs.items.read_items.Statement.{statement}
 use Rattle.record.proofs.items.read_items.Tie as tie
 
 abbrev Inv-loop : tie.InvT-loop
-Inv-loop levels₀ bits at pattern p₀ i₀ levels p i = Going readItem pattern levels₀ (bitList bits) at i p levels × (length levels ≡ 392)
+Inv-loop levels₀ bits at pattern p₀ q₀ levels p q =
+    Rest (readItems 26 0 pattern levels₀ (drop at (bitList bits))) at p (readItems (26 - 4 * q) (4 * q) pattern levels (drop p (bitList bits))) × (q ≤ 4) × (length levels ≡ 392)
 
 abbrev μ-loop : tie.MeasureT-loop
-μ-loop levels₀ bits at pattern p₀ i₀ levels p i = 26 - i
+μ-loop levels₀ bits at pattern p₀ q₀ levels p q = 4 - q
 
 loop-holds : tie.Need-loop-holds Inv-loop μ-loop
-loop-holds c = let a = c .before .args in (begins readItem (a .pattern) (a .levels .now) (bitList (a .bits .now)) (a .at), c .before .pre .0)
+loop-holds c = (rest-all _ (c .before .args .at), omega arith, c .before .pre .0)
 
-read-item-requires : tie.Need-read-item-requires Inv-loop μ-loop
-read-item-requires c κs = (c .before .before .before .loop-test .taken, c .before .before .before .before .loop .inv .1, c .before .before .before .before .before .before .pre .1)
+read-quadrant-requires : tie.Need-read-quadrant-requires Inv-loop μ-loop
+read-quadrant-requires c κs = (c .before .before .loop .inv .2, c .before .before .before .before .pre .1, c .before .loop-test .taken)
 
-add-i : tie.Need-add-i Inv-loop μ-loop
-add-i c = omega (arith, c .before .before .before .before .before .before .before .before .loop-test .taken)
-
-loop-less : tie.Need-loop-less Inv-loop μ-loop
-loop-less c = omega (arith, c .before .before .before .before .before .before .before .before .loop-test .taken)
+read-chroma-requires : tie.Need-read-chroma-requires Inv-loop μ-loop
+read-chroma-requires c κs = (c .before .before .loop .inv .2, c .before .before .before .before .pre .1)
 
 loop-again : tie.Need-loop-again Inv-loop μ-loop
-unfolding readItems
 loop-again c =
-    let l = c .before .before .before .before .before .before .before .before .before .loop in
-    let r = c .before .before .before .before .read-item in
-    (goes-on readItem _ (l .inv .0) _ _ _ (c .before .before .before .before .before .before .before .before .loop-test .taken) (sym (c .before .before .before .before .before .before .before .item-coded .ensures) ∙ c .before .before .before .before .before .before .if1 .taken) (c .before .next .given .1) (r .ensures), r .kept .0 ∙ l .inv .1)
+    let a = c .before .before .before .before .before .before .before .before .before .args in
+    let l = c .before .before .before .before .before .before .before .loop in
+    let h = c .before .before .before .before .before .before .loop-test .taken in
+    let s = bitList (a .bits .now) in
+    let d = c .before .before .before .before .read-quadrant in
+    (rest-on s (readItems (26 - 4 * (l .q + 1)) (4 * (l .q + 1)) (a .pattern)) (quadrant-first (a .pattern) (l .q) (l .levels) (drop (l .p) s) h (l .inv .0)) _ _ _ (c .before .next .given .1) (d .ensures), omega (arith, h), d .kept .0 ∙ l .inv .2)
 
 same-length : tie.Need-same-length Inv-loop μ-loop
-same-length c = c .before .before .before .before .read-item .kept .0 ∙ c .before .before .before .before .before .before .before .before .before .loop .inv .1 ∙ sym (c .before .before .before .before .before .before .before .before .before .before .before .pre .0)
+same-length c = c .before .before .before .before .read-quadrant .kept .0 ∙ c .before .before .before .before .before .before .before .loop .inv .2 ∙ sym (c .before .before .before .before .before .before .before .before .before .pre .0)
 
 returns : tie.Need-returns Inv-loop μ-loop
-unfolding readItems
-returns c = stops readItem _ (c .before .before .before .before .before .before .before .before .before .loop .inv .0) _ _ _ (c .before .before .before .before .before .before .before .before .loop-test .taken) (sym (c .before .before .before .before .before .before .before .item-coded .ensures) ∙ c .before .before .before .before .before .before .if1 .taken) (c .before .r .given .1) (c .before .before .before .before .read-item .ensures)
-
-loop-less-2 : tie.Need-loop-less-2 Inv-loop μ-loop
-loop-less-2 c = omega (arith, c .group-end .ensures .on, c .before .before .before .loop-test .taken)
-
-loop-again-2 : tie.Need-loop-again-2 Inv-loop μ-loop
-loop-again-2 c = (passes readItem _ (c .before .before .before .before .loop .inv .0) (c .group-end .ensures) (sym (c .before .before .item-coded .ensures) ∙ c .before .if1 .left), c .before .before .before .before .loop .inv .1)
+returns c =
+    let a = c .before .before .before .before .before .before .before .before .before .args in
+    let l = c .before .before .before .before .before .before .before .loop in
+    let s = bitList (a .bits .now) in
+    rest-stops s (readItems (26 - 4 * (l .q + 1)) (4 * (l .q + 1)) (a .pattern)) (quadrant-first (a .pattern) (l .q) (l .levels) (drop (l .p) s) (c .before .before .before .before .before .before .loop-test .taken) (l .inv .0)) _ _ _ (c .before .r .given .1) (c .before .before .before .before .read-quadrant .ensures)
 
 same-length-2 : tie.Need-same-length-2 Inv-loop μ-loop
-same-length-2 c = c .before .loop .inv .1 ∙ sym (c .before .before .before .pre .0)
+same-length-2 c = c .before .read-chroma .kept .0 ∙ c .before .before .before .before .loop .inv .2 ∙ sym (c .before .before .before .before .before .before .pre .0)
 
 returns-2 : tie.Need-returns-2 Inv-loop μ-loop
-unfolding readItems
-returns-2 c = ends readItem _ (c .before .loop .inv .0) (c .loop-test .left)
+returns-2 c =
+    let l = c .before .before .before .before .loop in
+    let e : l .q ≡ 4 = omega (arith, c .before .before .before .loop-test .left, l .inv .1) in
+    rest-last _ _ _ (rw e at (l .inv .0)) (c .before .read-chroma .ensures)
 
 pub read-items-spec : {M : Type 1} → statement M
 read-items-spec =
@@ -62,17 +62,14 @@ read-items-spec =
     Inv-loop
     μ-loop
     loop-holds
-    (λ c κs. search needs)
-    read-item-requires
+    read-quadrant-requires
     (λ c. search needs)
-    add-i
-    loop-less
+    (λ c. omega (arith, c .before .before .before .before .before .before .loop-test .taken))
+    (λ c. omega (arith, c .before .before .before .before .before .before .loop-test .taken))
     loop-again
     (λ c. search needs)
     same-length
     returns
-    (λ c κs. c .before .before .loop-test .taken)
-    loop-less-2
-    loop-again-2
+    read-chroma-requires
     same-length-2
     returns-2)

@@ -1,57 +1,53 @@
 -- `transcript::write::put_items`: the lists that are left, written at their place, give the whole.
-use mathlib.Core.Path.{refl, sym, _∙_}
-use Prim.Native.Nat.{_-_, _≤_}
+use mathlib.Core.Path.{_≡_, refl, _∙_}
+use Prim.Native.Nat.{_+_, _-_, _*_, _≤_}
 use native.Mathlib.Omega.{arith}
 use borrow.Author.Needs.{needs}
 use Rattle.record.specs.Write.{itemsBytes}
-use Rattle.transcript.proofs.Writing.{Still, still-all, still-none, item-fits, item-more, items-passed, no-item}
+use Rattle.transcript.proofs.Writing.{Still, still-all, still-fits, still-more, still-room, still-last, quadrant-bytes}
 use Rattle.transcript.proofs.write.put_items.Statement.{statement}
 use Rattle.transcript.proofs.write.put_items.Tie as tie
 
 abbrev Inv-loop : tie.InvT-loop
-Inv-loop out₀ levels at pattern p₀ i₀ out p i =
-    Still out₀ at (itemsBytes 26 0 pattern levels) out p (itemsBytes (26 - i) i pattern levels) × (i ≤ 26)
+Inv-loop out₀ levels at pattern p₀ q₀ out p q =
+    Still out₀ at (itemsBytes 26 0 pattern levels) out p (itemsBytes (26 - 4 * q) (4 * q) pattern levels) × (q ≤ 4)
 
 abbrev μ-loop : tie.MeasureT-loop
-μ-loop out₀ levels at pattern p₀ i₀ out p i = 26 - i
+μ-loop out₀ levels at pattern p₀ q₀ out p q = 4 - q
 
 loop-holds : tie.Need-loop-holds Inv-loop μ-loop
 loop-holds c = let a = c .before .args in (still-all (a .out .now) (a .at) _ _ refl, omega arith)
 
-put-item-requires : tie.Need-put-item-requires Inv-loop μ-loop
-put-item-requires c κs =
-    let s = c .before .before .before .before .before .before in
-    let l = c .before .before .before .before .loop in
-    let h = c .before .before .before .loop-test .taken in
-    (h, s .pre .0, item-fits (s .args .pattern) (s .args .levels .now) (l .i) (l .inv .0) h (sym (c .before .before .item-coded .ensures) ∙ c .before .if1 .taken) (s .pre .1))
-
-add-i : tie.Need-add-i Inv-loop μ-loop
-add-i c = omega (arith, c .before .before .before .before .before .before .loop-test .taken)
-
-loop-less : tie.Need-loop-less Inv-loop μ-loop
-loop-less c = omega (arith, c .before .before .before .before .before .before .loop-test .taken)
+put-quadrant-requires : tie.Need-put-quadrant-requires Inv-loop μ-loop
+put-quadrant-requires c κs =
+    let s = c .before .before .before .before in
+    let l = c .before .before .loop in
+    let h = c .before .loop-test .taken in
+    let ls = s .args .levels .now in
+    (s .pre .0, h, still-fits (l .inv .0) (itemsBytes 4 (4 * l .q) (s .args .pattern) ls) (itemsBytes (26 - 4 * (l .q + 1)) (4 * (l .q + 1)) (s .args .pattern) ls) (quadrant-bytes (s .args .pattern) ls (l .q) h) (s .pre .1))
 
 loop-again : tie.Need-loop-again Inv-loop μ-loop
 loop-again c =
-    let a = c .before .before .before .before .before .before .before .before .before .args in
-    let l = c .before .before .before .before .before .before .before .loop in
-    let h = c .before .before .before .before .before .before .loop-test .taken in
-    (item-more (a .pattern) (a .levels .now) (l .i) (l .inv .0) h (sym (c .before .before .before .before .before .item-coded .ensures) ∙ c .before .before .before .before .if1 .taken) _ _ (c .before .before .put-item .ensures), omega (arith, h))
+    let a = c .before .before .before .before .before .before .before .args in
+    let l = c .before .before .before .before .before .loop in
+    let h = c .before .before .before .before .loop-test .taken in
+    (still-more (l .inv .0) (quadrant-bytes (a .pattern) (a .levels .now) (l .q) h) (c .before .before .put-quadrant .ensures), omega (arith, h))
 
-loop-less-2 : tie.Need-loop-less-2 Inv-loop μ-loop
-loop-less-2 c = omega (arith, c .group-end .ensures .on, c .before .before .before .loop-test .taken)
-
-loop-again-2 : tie.Need-loop-again-2 Inv-loop μ-loop
-loop-again-2 c =
-    let a = c .before .before .before .before .before .before .args in
-    let l = c .before .before .before .before .loop in
-    (items-passed (a .pattern) (a .levels .now) (l .i) (l .inv .0) (c .group-end .ensures) (sym (c .before .before .item-coded .ensures) ∙ c .before .if1 .left), c .group-end .ensures .most)
+put-chroma-requires : tie.Need-put-chroma-requires Inv-loop μ-loop
+put-chroma-requires c κs =
+    let s = c .before .before .before .before in
+    let l = c .before .before .loop in
+    let e : l .q ≡ 4 = omega (arith, c .before .loop-test .left, l .inv .1) in
+    (s .pre .0, still-room (rw e at (l .inv .0)) (s .pre .1))
 
 same-length : tie.Need-same-length Inv-loop μ-loop
-same-length c = c .before .loop .inv .0 .same
+same-length c = c .before .before .put-chroma .kept .0 ∙ c .before .before .before .before .before .loop .inv .0 .same
 
 returns : tie.Need-returns Inv-loop μ-loop
-returns c = let a = c .before .before .before .args in still-none (c .before .loop .inv .0) (no-item (a .pattern) (a .levels .now) (c .before .loop .i) (c .loop-test .left))
+returns c =
+    let l = c .before .before .before .before .before .loop in
+    let e : l .q ≡ 4 = omega (arith, c .before .before .before .before .loop-test .left, l .inv .1) in
+    still-last (rw e at (l .inv .0)) (c .before .before .put-chroma .ensures)
 
 pub put-items-spec : {M : Type 1} → statement M
 put-items-spec =
@@ -60,13 +56,10 @@ put-items-spec =
     Inv-loop
     μ-loop
     loop-holds
-    (λ c κs. search needs)
-    put-item-requires
-    add-i
-    loop-less
+    put-quadrant-requires
+    (λ c. omega (arith, c .before .before .before .before .loop-test .taken))
+    (λ c. omega (arith, c .before .before .before .before .loop-test .taken))
     loop-again
-    (λ c κs. c .before .before .loop-test .taken)
-    loop-less-2
-    loop-again-2
+    put-chroma-requires
     same-length
     returns)

@@ -3,16 +3,18 @@ use mathlib.Core.Path.{_≡_, refl, ap, _∙_}
 use Prim.Native.Nat.{_≤_, _+_, _-_}
 use native.Mathlib.Omega.{arith}
 use borrow.Author.Needs.{needs}
-use lib.ListN.{length, take, length-set}
+use mathlib.Core.List.{map}
+use lib.ListN.{length, take, length-set, length-map}
 use lib.Seq.{sets}
-use Rattle.transcript.proofs.Short.{short-each, stored-turn}
+use Rattle.transcript.specs.Short.{sentNear}
+use Rattle.transcript.proofs.Short.{sent-at, stored-turn}
 use Rattle.transcript.proofs.write.put_short.Statement.{statement}
 use Rattle.transcript.proofs.write.put_short.Tie as tie
 use Rattle.transcript.proofs.write.put_short.Reads as reads
 use Rattle.transcript.proofs.write.put_short.Lts as lts
 
 abbrev Inv-loop : tie.InvT-loop
-Inv-loop out₀ t at count i₀ out i = (i ≤ count) × (length out ≡ length out₀) × (out ≡ sets out₀ at (take i t))
+Inv-loop out₀ t at count i₀ out i = (i ≤ count) × (length out ≡ length out₀) × (out ≡ sets out₀ at (take i (map sentNear t)))
 
 abbrev μ-loop : tie.MeasureT-loop
 μ-loop out₀ t at count i₀ out i = count - i
@@ -20,26 +22,18 @@ abbrev μ-loop : tie.MeasureT-loop
 loop-holds : tie.Need-loop-holds Inv-loop μ-loop
 loop-holds c = (omega arith, refl, refl)
 
-cast-out : tie.Need-cast-out Inv-loop μ-loop
-cast-out c =
-    let a = c .before .before .before .args in
-    let l = c .before .before .loop in
-    let z : 0 + l .i ≡ l .i = omega arith in
-    let h = rw z at (short-each (a .t .now) 0 (a .count) (c .before .before .before .pre .1) (l .i) (c .before .loop-test .taken)) in
-    record { fits = omega arith }
-
 loop-again : tie.Need-loop-again Inv-loop μ-loop
 loop-again c =
-    let a = c .before .before .before .args in
-    let l = c .before .before .loop in
-    (omega arith, simp length-set (l .inv .1), rw (l .inv .2) (stored-turn 0 (a .out .now) (a .at) (a .t .now) (l .i) (omega arith)))
+    let a = c .before .before .before .before .before .args in
+    let l = c .before .before .before .loop in
+    (omega arith, simp length-set (l .inv .1), rw (l .inv .2, c .sent-near .ensures, ← sent-at (a .t .now) (l .i)) (stored-turn 0 (a .out .now) (a .at) (map sentNear (a .t .now)) (l .i) (omega (arith, length-map (a .t .now) sentNear))))
 
 same-length : tie.Need-same-length Inv-loop μ-loop
 same-length c = omega arith
 
 returns : tie.Need-returns Inv-loop μ-loop
 returns c =
-    let e : c .before .loop .i ≡ c .before .before .args .count = omega arith in
+    let e : c .before .loop .i ≡ c .before .before .before .args .count = omega arith in
     rw (← e) (c .before .loop .inv .2)
 
 pub put-short-spec : {M : Type 1} → statement M
@@ -50,8 +44,7 @@ put-short-spec =
     μ-loop
     loop-holds
     (λ c. omega arith)
-    (λ c. omega arith)
-    cast-out
+    (λ c κs. search needs)
     (λ c. omega arith)
     (λ c. omega arith)
     (λ c. omega arith)

@@ -1,0 +1,19 @@
+-- `transcript::write::sent_near`: its test is that of `sentNear`.
+use mathlib.Core.Path.{sym}
+use borrow.Author.Needs.{needs}
+use borrow.Author.Tests.{lt-ltb, le-ltb}
+use Rattle.ints.specs.Z.{if_then_else_}
+use Rattle.transcript.specs.Short.{sentNear}
+use Rattle.transcript.proofs.write.sent_near.Statement.{statement}
+use Rattle.transcript.proofs.write.sent_near.Tie as tie
+
+returns : tie.Need-returns
+unfolding sentNear if_then_else_
+returns c = rw (lt-ltb _ _ (c .if1 .taken))
+
+returns-2 : tie.Need-returns-2
+unfolding sentNear if_then_else_
+returns-2 c = rw (le-ltb _ _ (c .if1 .left))
+
+pub sent-near-spec : {M : Type 1} → statement M
+sent-near-spec = tie.close (tie.spec (λ c. search needs) (λ c. search needs) returns returns-2)
