@@ -2,22 +2,25 @@
 -- Assumes nothing.
 use mathlib.Core.Path.{_≡_, refl, sym, ap, _∙_}
 use mathlib.Core.Bool.{Bool, true, false, _&&_}
-use mathlib.Core.List.{List, [], _∷_, _++_, map}
+use mathlib.Core.List.{List, [], _∷_, _++_, map, append-nil}
 use mathlib.Core.Logic.{⊎-elim}
 use Prim.Native.Nat.{ℕ, zero, suc, _+_, _-_, _*_, _%_, _≤_, _<_, min}
+use native.Mathlib.Nat.{add-zero}
 use native.Mathlib.Numerals.{add-one}
 use native.Mathlib.Omega.{arith}
 use borrow.Author.Tests.{leb-true, ltb-true, ltb-false, lt-ltb, le-ltb}
 use lib.Dec.{leb, ltb}
 use lib.IntN.{ℤ, pos, negsuc, _+ℤ_}
-use lib.ListN.{length, getD, take, drop, set, length-set, length-drop, length-map, List·getD-map}
+use lib.ListN.{length, getD, take, drop, set, length-set, length-drop, length-append, length-map, List·getD-map}
 use lib.Seq.{sets, take-suc, length-take-le, getD-set-same, getD-set-other, getD-take, getD-drop, set-set}
 use Rattle.ints.specs.Z.{if_then_else_, clampZ}
 use Rattle.ints.proofs.Fits.{sub-ind}
 use Rattle.number.specs.Number.{number}
 use Rattle.number.specs.SignedNumber.{sent, signedNumber}
 use Rattle.number.proofs.Numbers.{lt-or-le, one-group}
+use Rattle.residual.specs.declared.svq3_coeff.ResidualBook.the-variants.{NormalScan}
 use Rattle.record.specs.Write.{signedNumbers}
+use Rattle.record.specs.Sides.{sideBytes}
 use Rattle.record.proofs.Sets.{sets-append}
 use Rattle.transcript.specs.Answers.{Written, Ahead}
 use Rattle.transcript.specs.Short.{nearOf, sentNear, allNear, Near}
@@ -164,3 +167,56 @@ module _ (l : List ℤ) (first n : ℕ) (t : List ℕ) (h : first + n < length l
           leaves = λ b rest. ap (λ (o : List ℕ). sets o (at + n) (b ∷ rest)) stored ∙ ap (λ (o : List ℕ). sets o (suc (at + n)) rest) (set-set x (at + n) v b)
               ∙ ap (λ (k : ℕ). sets x (at + k) (b ∷ rest)) (sym few) ∙ sym (sets-append out at (take n (map sentNear t)) (b ∷ rest)) ∙ ap (λ (bytes : List ℕ). sets out at (bytes ++ b ∷ rest)) (sym numbers-are);
         }
+
+-- ---- four lists side by side, all of them short
+module _ (ls : List ℤ) (place : ℕ) (a b c d out : List ℕ) (at : ℕ) (h : place + 64 ≤ length ls)
+    (na : Near ls place 16 a) (nb : Near ls (place + 16) 16 b) (nc : Near ls (place + 16 + 16) 16 c) (nd : Near ls (place + 16 + 16 + 16) 16 d)
+    (e : (((allNear a 16 && allNear b 16) && allNear c 16) && allNear d 16) ≡ true) where
+  abbrev numbersAt : ℕ → List ℕ
+  numbersAt first = signedNumbers (take 16 (drop first ls))
+
+  all-near : (allNear a 16 ≡ true) × (allNear b 16 ≡ true) × (allNear c 16 ≡ true) × (allNear d 16 ≡ true)
+  all-near =
+      let x = both ((allNear a 16 && allNear b 16) && allNear c 16) (allNear d 16) e in
+      let y = both (allNear a 16 && allNear b 16) (allNear c 16) (x .0) in
+      let z = both (allNear a 16) (allNear b 16) (y .0) in
+      (z .0, z .1, y .1, x .1)
+
+  four-parts : sideBytes NormalScan 0 4 place ls ≡ numbersAt place ++ (numbersAt (place + 16) ++ (numbersAt (place + 16 + 16) ++ numbersAt (place + 16 + 16 + 16)))
+  unfolding sideBytes
+  four-parts = simp (add-zero, append-nil)
+
+  abbrev bytesOf : List ℕ → List ℕ
+  bytesOf t = take 16 (map sentNear t)
+
+  size-of : (t : List ℕ) → length t ≡ 16 → length (bytesOf t) ≡ 16
+  size-of t n = length-take-le 16 (map sentNear t) (omega (arith, length-map t sentNear))
+
+  four-are : sideBytes NormalScan 0 4 place ls ≡ bytesOf a ++ (bytesOf b ++ (bytesOf c ++ bytesOf d))
+  four-are =
+      four-parts ∙ rw (
+        near-numbers ls place 16 a (omega arith) (omega arith) na (all-near .0),
+        near-numbers ls (place + 16) 16 b (omega arith) (omega arith) nb (all-near .1),
+        near-numbers ls (place + 16 + 16) 16 c (omega arith) (omega arith) nc (all-near .2),
+        near-numbers ls (place + 16 + 16 + 16) 16 d (omega arith) (omega arith) nd (all-near .3),
+      )
+
+  four-count : length (sideBytes NormalScan 0 4 place ls) ≡ 64
+  four-count =
+      ap length four-are
+      ∙ omega (arith, length-append (bytesOf a) (bytesOf b ++ (bytesOf c ++ bytesOf d)), length-append (bytesOf b) (bytesOf c ++ bytesOf d), length-append (bytesOf c) (bytesOf d), size-of a (na .size), size-of b (nb .size), size-of c (nc .size), size-of d (nd .size))
+
+  pub four-fit : at + length (sideBytes NormalScan 0 4 place ls) ≤ length out → at + 16 + 16 + 16 + 16 ≤ length out
+  four-fit k = omega (arith, four-count)
+
+  pub four-written : {o₁ o₂ o₃ o₄ : List ℕ} → o₁ ≡ sets out at (bytesOf a) → o₂ ≡ sets o₁ (at + 16) (bytesOf b) → o₃ ≡ sets o₂ (at + 16 + 16) (bytesOf c) → o₄ ≡ sets o₃ (at + 16 + 16 + 16) (bytesOf d)
+      → Written out at (sideBytes NormalScan 0 4 place ls) (at + 16 + 16 + 16 + 16) o₄
+  four-written {o₁} {o₂} {o₃} {o₄} w x y z =
+      record {
+        moved = omega (arith, four-count);
+        leaves = z ∙ ap (λ (o : List ℕ). sets o (at + 16 + 16 + 16) (bytesOf d)) (y ∙ ap (λ (o : List ℕ). sets o (at + 16 + 16) (bytesOf c)) (x ∙ ap (λ (o : List ℕ). sets o (at + 16) (bytesOf b)) w))
+            ∙ sym (ap (sets out at) four-are ∙ after a (na .size) out at (bytesOf b ++ (bytesOf c ++ bytesOf d)) ∙ after b (nb .size) _ (at + 16) (bytesOf c ++ bytesOf d) ∙ after c (nc .size) _ (at + 16 + 16) (bytesOf d));
+      }
+    where
+      after : (t : List ℕ) → length t ≡ 16 → (l : List ℕ) (n : ℕ) (bs : List ℕ) → sets l n (bytesOf t ++ bs) ≡ sets (sets l n (bytesOf t)) (n + 16) bs
+      after t s l n bs = sets-append l n (bytesOf t) bs ∙ ap (λ (k : ℕ). sets (sets l n (bytesOf t)) (n + k) bs) (size-of t s)

@@ -94,7 +94,7 @@ fn put_short(out: &mut [u8], t: &[u8; 16], at: usize, count: usize)
     }
 }
 
-// `count` signed numbers, most of them short. All are read before one is written, as in picture's store_row.
+// `count` signed numbers, most of them short. All are read before one is written, as in picture's store_row. The counts of its callers are literals, so that the compiler knows each loop's length.
 fn put_list(out: &mut [u8], numbers: &[i32], at: usize, first: usize, count: usize) -> usize
     requires { ⌜ (count ≤ 16) × (first + count ≤ length (now numbers)) × (at + length (signedNumbers (take count (drop first (now numbers)))) ≤ length (now out)) ⌝ }
     ensures { λ r. ⌜ Written (now (out .entry)) at (signedNumbers (take count (drop first (now (numbers .entry))))) r (now (out .exit)) ⌝ }
@@ -107,7 +107,7 @@ fn put_list(out: &mut [u8], numbers: &[i32], at: usize, first: usize, count: usi
     put_signed_numbers(out, numbers, at, first, count)
 }
 
-// 15 signed numbers, and where they are short the one behind them too, over which the next byte is written: sixteen bytes are stored at once.
+// `count` signed numbers, and where they are short the one behind them too, over which the next byte is written: with 15 the compiler stores sixteen bytes at once.
 fn put_list_ahead(out: &mut [u8], numbers: &[i32], at: usize, first: usize, count: usize) -> usize
     requires { ⌜ (count < 16) × (first + count < length (now numbers)) × (at + length (signedNumbers (take count (drop first (now numbers)))) < length (now out)) ⌝ }
     ensures { λ r. ⌜ Ahead (now (out .entry)) at (signedNumbers (take count (drop first (now (numbers .entry))))) r (now (out .exit)) ⌝ }
@@ -134,6 +134,25 @@ fn put_blocks(out: &mut [u8], levels: &[i32], at: usize, place: usize) -> usize
     p
 }
 
+// The same, at once where all numbers are short.
+fn put_four(out: &mut [u8], levels: &[i32], at: usize, place: usize) -> usize
+    requires { ⌜ (place + 64 ≤ length (now levels)) × (at + length (sideBytes ResidualBook.NormalScan 0 4 place (now levels)) ≤ length (now out)) ⌝ }
+    ensures { λ r. ⌜ Written (now (out .entry)) at (sideBytes ResidualBook.NormalScan 0 4 place (now (levels .entry))) r (now (out .exit)) ⌝ }
+{
+    let a = take_near(levels, place, 16);
+    let b = take_near(levels, place + 16, 16);
+    let c = take_near(levels, place + 16 + 16, 16);
+    let d = take_near(levels, place + 16 + 16 + 16, 16);
+    if all_short(&a, 16) & all_short(&b, 16) & all_short(&c, 16) & all_short(&d, 16) {
+        put_short(out, &a, at, 16);
+        put_short(out, &b, at + 16, 16);
+        put_short(out, &c, at + 16 + 16, 16);
+        put_short(out, &d, at + 16 + 16 + 16, 16);
+        return at + 16 + 16 + 16 + 16;
+    }
+    put_blocks(out, levels, at, place)
+}
+
 // The eight chroma AC lists, which have no place 0.
 fn put_ac(out: &mut [u8], levels: &[i32], at: usize) -> usize
     requires { ⌜ (length (now levels) ≡ 392) × (at + length (sideBytes ResidualBook.NormalScan 1 8 264 (now levels)) ≤ length (now out)) ⌝ }
@@ -154,7 +173,7 @@ fn put_quadrant(out: &mut [u8], levels: &[i32], at: usize, pattern: u8, q: usize
     ensures { λ r. ⌜ Written (now (out .entry)) at (itemsBytes 4 (4 * q) pattern (now (levels .entry))) r (now (out .exit)) ⌝ }
 {
     if luma_quadrant_coded(pattern, q as u32) {
-        return put_blocks(out, levels, at, 64 * q);
+        return put_four(out, levels, at, 64 * q);
     }
     at
 }
