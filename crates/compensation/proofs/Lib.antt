@@ -1,7 +1,8 @@
 -- The laws of this crate.
 pub mod Mixes
-pub mod MixRows
+pub mod Lanes
 pub mod Taps
+pub mod Split
 pub mod Sides
 pub mod Between
 pub mod Multipliers

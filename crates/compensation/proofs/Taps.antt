@@ -4,9 +4,11 @@ use mathlib.Core.Path.{_≡_, refl, sym, ap, _∙_}
 use mathlib.Core.List.{List}
 use mathlib.Core.Logic.{_⊎_, inl, inr, ⊎-elim}
 use Prim.Native.Nat.{ℕ, zero, suc, _+_, _-_, _*_, _≤_, _<_, min}
-use native.Mathlib.Nat.{add-mul, mul-comm, zero-add, add-zero}
+use native.Mathlib.Nat.{add-mul, mul-comm, mul-le-mul-right, zero-add, add-zero}
 use native.Mathlib.Omega.{arith}
-use borrow.Author.Tests.{ne-eqb}
+use borrow.Author.Tests.{ne-eqb, leb-true}
+use lib.Dec.{leb}
+use mathlib.Core.Bool.{true}
 use lib.IntN.{ℤ, pos, negsuc, natAbs, _+ℤ_}
 use lib.Signed.{pos-natAbs}
 use lib.ListN.{length, getD, replicate}
@@ -20,7 +22,9 @@ use Rattle.ints.proofs.Laws.{clamp-low, floor-shift}
 use Rattle.compensation.specs.Sample.{nearest, tap, sampleAt, sixths, blockSample}
 use Rattle.compensation.specs.Formula.{along, formula}
 use Rattle.compensation.specs.Block.{Whole, Span}
-use Rattle.compensation.specs.Taps.{Placed}
+use Rattle.compensation.specs.Taps.{Placed, TapsIn}
+use Rattle.compensation.specs.declared.svq3_mc.Taps.{Taps}
+use Rattle.compensation.proofs.Sides.{four-true, line-small}
 use Rattle.compensation.specs.Kernel.{originOf, near, nearFrom, picked, pickedAt, lineAt, windowAt, windowBlock, fourAt, fourRow, fourBlock, extra}
 
 -- ---- places before and past a line of n
@@ -134,6 +138,14 @@ extra-le px py = ⊎-elim (λ z. rw (z .0, z .1, extra-none) (omega arith)) (λ 
 pub extra-zero : (px py : ℕ) → extra px py ≡ 0 → (px ≡ 0) × (py ≡ 0)
 extra-zero px py e = ⊎-elim (λ z. z) (λ o. absurd (omega arith)) (extra-or px py)
 
+-- samples that are mixed read a row and a column more
+pub mixed-room : {w h : ℕ} (px py stride from n : ℕ) → Span w h → extra px py ≡ 1 → from + (h - 1 + extra px py) * stride + w + extra px py ≤ n → (from + h * stride + w < n) × (stride < n)
+mixed-room {w} {h} px py stride from n s one le =
+    let rows : h - 1 + 1 ≡ h = omega arith in
+    let room : from + h * stride + w + 1 ≤ n = rw (one, rows) at le in
+    let last : 1 * stride ≤ h * stride = mul-le-mul-right stride (s .down .0) in
+    (omega arith, omega arith)
+
 -- ---- the taps as they are gathered: the columns are listed once
 columns-at : (width bx k : ℕ) → k < 17 → getD (row (replicate 17 0) 0 (nearFrom width bx) 17) k 0 ≡ near width (bx + k)
 unfolding nearFrom
@@ -154,11 +166,6 @@ module _ (width bx : ℕ) {columns : List ℕ} (is : columns ≡ row (replicate 
   pub picked-block : (plane : List ℕ) (height by w h : ℕ) (l : List ℕ) → w ≤ 17 → painted w 0 0 w h (pickedAt plane columns width height by) l ≡ painted w 0 0 w h (windowAt plane width height bx by) l
   unfolding pickedAt picked windowAt lineAt
   picked-block plane height by w h l le = painted-values w 0 0 w h _ _ l (λ r c lr lc. rw (is, columns-at width bx c (omega arith)))
-
--- ---- two functions of four taps that agree
-pub four-same : (f g : ℕ → ℕ → ℕ → ℕ → ℕ) (src : List ℕ) (stride from r c : ℕ) → ((s t u v : ℕ) → f s t u v ≡ g s t u v) → fourBlock f src stride from r c ≡ fourBlock g src stride from r c
-unfolding fourBlock fourRow fourAt
-four-same f g src stride from r c e = e _ _ _ _
 
 -- ---- a source that holds the taps t
 four-taps : (f : ℕ → ℕ → ℕ → ℕ → ℕ) (src : List ℕ) (stride from : ℕ) (t : ℕ → ℕ → ℕ) (r c : ℕ) → ((r′ c′ : ℕ) → r′ ≤ r + 1 → c′ ≤ c + 1 → getD src (from + r′ * stride + c′) 0 ≡ t r′ c′)
@@ -213,3 +220,27 @@ module _ (plane : List ℕ) (width height bx by : ℕ) (left : 17 ≤ bx) (top :
       (λ e. rw (e .0, e .1) (inside-whole r c (omega arith) (omega arith)))
       (λ e. four-taps (formula px py) plane width ((by - 17) * width + (bx - 17)) (windowAt plane width height bx by) r c (λ r′ c′ l l′. inside-tap r′ c′ (omega arith) (omega arith)))
       (extra-or px py)
+
+-- ---- a block that says that its taps lie inside
+module _ {width height w h : ℕ} (t : Taps) (p : TapsIn width height w h t) (e : t .inside ≡ true) where
+  abbrev more-taps : ℕ
+  more-taps = extra (t .px) (t .py)
+
+  abbrev start : ℕ
+  start = (t .by - 17) * width + (t .bx - 17)
+
+  pub taps-lie : (17 ≤ t .bx) × (t .bx + w + more-taps ≤ width + 17) × (17 ≤ t .by) × (t .by + h + more-taps ≤ height + 17)
+  taps-lie =
+      let f = four-true (leb 17 (t .bx)) (leb (t .bx + w + more-taps) (width + 17)) (leb 17 (t .by)) (leb (t .by + h + more-taps) (height + 17)) (sym (p .whether) ∙ e) in
+      (leb-true 17 (t .bx) (f .0), leb-true (t .bx + w + more-taps) (width + 17) (f .1), leb-true 17 (t .by) (f .2), leb-true (t .by + h + more-taps) (height + 17) (f .3))
+
+  pub taps-start : {size : ℕ} → Whole width height size → ((t .by - 17) * width ≤ 4294967296) × (t .bx ≤ 65552)
+  taps-start full = (line-small {line = t .by - 17} full (omega (arith, taps-lie, p .near)), omega (arith, p .near, full .columns))
+
+  pub taps-room : (plane : List ℕ) → Whole width height (length plane) → Span w h → start + (h - 1 + more-taps) * width + w + more-taps ≤ length plane
+  taps-room plane full s = let l = taps-lie in inside-room plane width height (t .bx) (t .by) (l .0) (l .2) w h more-taps full (s .down .0) (l .3) (l .1)
+
+  pub taps-block : (plane : List ℕ) (s dx dy : ℕ) (l : List ℕ) → painted s dx dy w h (fourBlock (formula (t .px) (t .py)) plane width start) l ≡ painted s dx dy w h (windowBlock (formula (t .px) (t .py)) plane width height (t .bx) (t .by)) l
+  taps-block plane s dx dy l =
+      let i = taps-lie in
+      painted-values s dx dy w h _ _ l (λ r c lr lc. inside-sample plane width height (t .bx) (t .by) (i .0) (i .2) (t .px) (t .py) r c w h (i .3) (i .1) lr lc)

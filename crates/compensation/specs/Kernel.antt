@@ -5,61 +5,71 @@ use mathlib.Core.Path.{_≡_}
 use mathlib.Core.List.{List, [], _∷_}
 use Prim.Native.Nat.{ℕ, _+_, _-_, _*_, _/_, _%_, _^_, _<_, _≤_, min}
 use mathlib.Core.Bool.{_&&_}
-use lib.Dec.{eqb, leb}
+use lib.Dec.{eqb, leb, ltb}
 use lib.IntN.{ℤ, pos, negsuc, natAbs, _+ℤ_}
 use lib.ListN.{getD}
 use Rattle.ints.specs.Z.{if_then_else_, clampZ}
 use Rattle.compensation.specs.Formula.{half, formula}
 use Rattle.compensation.specs.declared.kernel.Mix.{Mix}
-use Rattle.compensation.specs.declared.kernel.Mix.the-variants.{Weigh, Across, Down}
 
--- the taps weighed
+-- four values weighed
 unfoldable pub weighed : ℕ → ℕ → ℕ → ℕ → ℕ → ℕ → ℕ → ℕ → ℕ
 weighed wa wb wc wd a b c d = (wa * a + wb * b + wc * c + wd * d + 6) / 12
 
--- halfway between a and b and between c and d, then those two weighed
-unfoldable pub blended : ℕ → ℕ → ℕ → ℕ → ℕ → ℕ → ℕ
-blended near far a b c d = (near * half a b + far * half c d + 3) / 6
+-- the sample whose first tap is i, in rows that are `below` long: two means and two taps, weighed
+unfoldable pub mixedAt : Mix → List ℕ → ℕ → ℕ → ℕ
+mixedAt m src below i =
+    let first = half (getD src i 0) (getD src (i + m .beside) 0) in
+    let second = half (getD src (i + m .second) 0) (getD src (i + m .other) 0) in
+    weighed (m .wa) (m .wb) (m .wc) (m .wd) first second (getD src (i + below) 0) (getD src (i + below + 1) 0)
 
--- by the kind of the mix
-unfoldable pub mixed : Mix → ℕ → ℕ → ℕ → ℕ → ℕ
-mixed (Weigh wa wb wc wd) a b c d = weighed wa wb wc wd a b c d
-mixed (Across near far) a b c d = blended near far a b c d
-mixed (Down near far) a b c d = blended near far a c b d
+-- at column c of the row that starts at `from`
+unfoldable pub mixedRow : Mix → List ℕ → ℕ → ℕ → ℕ → ℕ
+mixedRow m src below from c = mixedAt m src below (from + c)
 
--- weights that sum to 12, or to 6
-abbrev pub Even : Mix → Type 0
-Even (Weigh wa wb wc wd) = wa + wb + wc + wd ≡ 12
-Even (Across near far) = near + far ≡ 6
-Even (Down near far) = near + far ≡ 6
+-- at column c of row r of the block that starts at `from`
+unfoldable pub mixedBlock : Mix → List ℕ → ℕ → ℕ → ℕ → ℕ → ℕ
+mixedBlock m src stride from r = mixedRow m src stride (from + r * stride)
 
--- the mix of two phases
-pub record MixFor (px py : ℕ) (mix : Mix) : Type 0 where
-  pub even : Even mix
-  pub is : (a b c d : ℕ) → mixed mix a b c d ≡ formula px py a b c d
+-- weights of the sum 12, and no tap further than the one below to the right
+pub record Even (below : ℕ) (m : Mix) : Type 0 where
+  pub sum : m .wa + m .wb + m .wc + m .wd ≡ 12
+  pub reach : (m .beside ≤ below + 1) × (m .second ≤ below + 1) × (m .other ≤ below + 1)
 
 -- how far a phase goes: 0 not at all, 1 a third of the way, 2 half of it, 3 two thirds
 unfoldable pub way : ℕ → ℕ
-way p = 3350800 / 2 ^ (4 * p) % 4
+way p = 0x332110 / 2 ^ (4 * p) % 4
 
 -- by the way down: the codes of the mixes, 16 bits each by the way across
 unfoldable pub mixes : List ℕ
-mixes = 37155135017189388 ∷ 3622002563336111112 ∷ 16159534710855566854 ∷ 4842196716509923332 ∷ []
+mixes = 0x008400660048000c ∷ 0x3243f04823340408 ∷ 0xe0843333e0480606 ∷ 0x4332f08434230804 ∷ []
 
 -- the code of the mix of two phases
 unfoldable pub mixCode : ℕ → ℕ → ℕ
 mixCode px py = getD mixes (way py) 0 / 2 ^ (16 * way px) % 65536
 
--- the mix that a code says, by its four hexadecimal digits
-unfoldable pub mixSaid : ℕ → Mix
-mixSaid m =
-    if leb 61440 m then Across (m % 16) (m / 16 % 16)
-    else if leb 57344 m then Down (m % 16) (m / 16 % 16)
-    else Weigh (m % 16) (m / 16 % 16) (m / 256 % 16) (m / 4096)
+-- the mix that a code says, by its four hexadecimal digits: f is halfway across and e halfway down
+unfoldable pub mixSaid : ℕ → ℕ → Mix
+mixSaid below code =
+    let kind = code / 4096 in
+    record {
+      beside = if eqb kind 15 then 1 else if eqb kind 14 then below else 0;
+      second = if eqb kind 15 then below else 1;
+      other = if leb 14 kind then below + 1 else 1;
+      wa = code % 16;
+      wb = code / 16 % 16;
+      wc = code / 256 % 16;
+      wd = if ltb kind 14 then kind else 0;
+    }
 
 -- a function of the four taps at place i
 unfoldable pub fourAt : (ℕ → ℕ → ℕ → ℕ → ℕ) → List ℕ → ℕ → ℕ → ℕ → ℕ
 fourAt f src u v i = f (getD src i 0) (getD src (i + u) 0) (getD src (i + v) 0) (getD src (i + u + v) 0)
+
+-- the mix of two phases
+pub record MixFor (px py below : ℕ) (m : Mix) : Type 0 where
+  pub even : Even below m
+  pub is : (src : List ℕ) (i : ℕ) → mixedAt m src below i ≡ fourAt (formula px py) src 1 below i
 
 -- at column c of the row that starts at `from`
 unfoldable pub fourRow : (ℕ → ℕ → ℕ → ℕ → ℕ) → List ℕ → ℕ → ℕ → ℕ → ℕ → ℕ

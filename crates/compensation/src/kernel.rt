@@ -1,110 +1,57 @@
-// The sample loops. The phase is chosen outside them, and every tap lies in the source: no branch and no clamp inside.
+// The sample loops, row by row. The phase is chosen outside them, and every tap lies in the source: no branch and no clamp inside.
 ghost use mathlib.Core.Path.{_≡_};
 ghost use Prim.Native.Nat.{_+_, _*_, _-_, _<_, _≤_};
+ghost use lib.Dec.{ltb};
 ghost use lib.ListN.{length, getD};
+ghost use Rattle.ints.specs.Z.{if_then_else_};
 ghost use Rattle.picture.specs.Painted.{Inside, painted};
 ghost use Rattle.picture.specs.Rows.{row};
 ghost use Rattle.compensation.specs.Formula.{half, formula};
-ghost use Rattle.compensation.specs.Kernel.{weighed, blended, mixed, Even, MixFor, way, mixes, mixCode, fourAt, fourRow, fourBlock, extra};
+ghost use Rattle.compensation.specs.Kernel.{weighed, mixedRow, mixedBlock, Even, MixFor, way, mixes, mixCode, fourBlock, extra};
 ghost use Rattle.compensation.specs.Block.{Span};
 use picture::rows::store_row;
 
-// How the four taps of a sample are mixed.
-pub enum Mix {
-    // weights of the sum 12
-    Weigh(u16, u16, u16, u16),
-    // halfway across, then the two weighed down the column: weights of the sum 6
-    Across(u16, u16),
-    // halfway down, then the two weighed across
-    Down(u16, u16),
+// How a sample is mixed, whatever the phases: four values weighed by weights of the sum 12.
+// The first value is the mean of the sample's first tap and the one `beside` places on, the second that of the taps `second` and `other` places on;
+// the mean of a tap and itself is that tap. The third and the fourth are the tap below the first and its neighbour to the right.
+pub struct Mix {
+    pub beside: usize,
+    pub second: usize,
+    pub other: usize,
+    pub wa: u16,
+    pub wb: u16,
+    pub wc: u16,
+    pub wd: u16,
 }
 
 // The sum never passes 3,066.
-fn weigh(a: u8, b: u8, c: u8, d: u8, wa: u16, wb: u16, wc: u16, wd: u16) -> u8
+pub fn weigh(a: u8, b: u8, c: u8, d: u8, wa: u16, wb: u16, wc: u16, wd: u16) -> u8
     requires { ⌜ wa + wb + wc + wd ≡ 12 ⌝ }
     ensures { λ r. ⌜ r ≡ weighed wa wb wc wd a b c d ⌝ }
 {
     ((wa * (a as u16) + wb * (b as u16) + wc * (c as u16) + wd * (d as u16) + 6) / 12) as u8
 }
 
-fn halfway(a: u8, b: u8) -> u16
-    ensures { λ r. ⌜ (r ≡ half a b) × (r < 256) ⌝ }
+pub fn halfway(a: u8, b: u8) -> u8
+    ensures { λ r. ⌜ r ≡ half a b ⌝ }
 {
-    ((a as u16) + (b as u16) + 1) / 2
-}
-
-fn blend(a: u8, b: u8, c: u8, d: u8, near: u16, far: u16) -> u8
-    requires { ⌜ near + far ≡ 6 ⌝ }
-    ensures { λ r. ⌜ r ≡ blended near far a b c d ⌝ }
-{
-    ((near * halfway(a, b) + far * halfway(c, d) + 3) / 6) as u8
-}
-
-fn weigh_row(
-    dst: &mut [u8],
-    src: &[u8],
-    to: usize,
-    from: usize,
-    below: usize,
-    n: usize,
-    wa: u16,
-    wb: u16,
-    wc: u16,
-    wd: u16,
-)
-    requires { ⌜ wa + wb + wc + wd ≡ 12 ⌝ }
-    requires { ⌜ (to + n ≤ length (now dst)) × (from + n + below < length (now src)) ⌝ }
-    ensures { λ _. ⌜ now (dst .exit) ≡ row (now (dst .entry)) to (fourRow (weighed wa wb wc wd) (now (src .entry)) 1 below from) n ⌝ }
-{
-    let mut c = 0;
-    while c < n {
-        let i = from + c;
-        dst[to + c] = weigh(
-            src[i],
-            src[i + 1],
-            src[i + below],
-            src[i + 1 + below],
-            wa,
-            wb,
-            wc,
-            wd,
-        );
-        c += 1;
-    }
-}
-
-fn blend_row(
-    dst: &mut [u8],
-    src: &[u8],
-    to: usize,
-    from: usize,
-    u: usize,
-    v: usize,
-    n: usize,
-    near: u16,
-    far: u16,
-)
-    requires { ⌜ near + far ≡ 6 ⌝ }
-    requires { ⌜ (to + n ≤ length (now dst)) × (from + n + u + v ≤ length (now src)) ⌝ }
-    ensures { λ _. ⌜ now (dst .exit) ≡ row (now (dst .entry)) to (fourRow (blended near far) (now (src .entry)) u v from) n ⌝ }
-{
-    let mut c = 0;
-    while c < n {
-        let i = from + c;
-        dst[to + c] = blend(src[i], src[i + u], src[i + v], src[i + u + v], near, far);
-        c += 1;
-    }
+    (((a as u16) + (b as u16) + 1) / 2) as u8
 }
 
 fn mix_row(dst: &mut [u8], src: &[u8], to: usize, from: usize, below: usize, n: usize, mix: Mix)
-    requires { ⌜ Even mix ⌝ }
+    requires { ⌜ Even below mix ⌝ }
     requires { ⌜ (to + n ≤ length (now dst)) × (from + n + below < length (now src)) ⌝ }
-    ensures { λ _. ⌜ now (dst .exit) ≡ row (now (dst .entry)) to (fourRow (mixed mix) (now (src .entry)) 1 below from) n ⌝ }
+    ensures { λ _. ⌜ now (dst .exit) ≡ row (now (dst .entry)) to (mixedRow mix (now (src .entry)) below from) n ⌝ }
 {
-    match mix {
-        Mix::Weigh(wa, wb, wc, wd) => weigh_row(dst, src, to, from, below, n, wa, wb, wc, wd),
-        Mix::Across(near, far) => blend_row(dst, src, to, from, 1, below, n, near, far),
-        Mix::Down(near, far) => blend_row(dst, src, to, from, below, 1, n, near, far),
+    let mut c = 0;
+    while c < n {
+        let i = from + c;
+        let first = halfway(src[i], src[i + mix.beside]);
+        let second = halfway(src[i + mix.second], src[i + mix.other]);
+        let third = src[i + below];
+        let fourth = src[i + below + 1];
+        dst[to + c] = weigh(first, second, third, fourth, mix.wa, mix.wb, mix.wc, mix.wd);
+        c += 1;
     }
 }
 
@@ -121,10 +68,10 @@ pub fn mix_block(
     from: usize,
     mix: Mix,
 )
-    requires { ⌜ Even mix ⌝ }
+    requires { ⌜ Even stride mix ⌝ }
     requires { ⌜ Inside dstride dx dy w h (length (now dst)) ⌝ }
     requires { ⌜ from + h * stride + w < length (now src) ⌝ }
-    ensures { λ _. ⌜ now (dst .exit) ≡ painted dstride dx dy w h (fourBlock (mixed mix) (now (src .entry)) stride from) (now (dst .entry)) ⌝ }
+    ensures { λ _. ⌜ now (dst .exit) ≡ painted dstride dx dy w h (mixedBlock mix (now (src .entry)) stride from) (now (dst .entry)) ⌝ }
 {
     let mut r = 0;
     while r < h {
@@ -141,64 +88,6 @@ pub fn mix_block(
     }
 }
 
-// The sample whose first tap is i.
-fn mix_sample(src: &[u8], i: usize, below: usize, mix: Mix) -> u8
-    requires { ⌜ Even mix × (i + 1 + below < length (now src)) ⌝ }
-    ensures { λ r. ⌜ r ≡ fourAt (mixed mix) (now (src .entry)) 1 below i ⌝ }
-{
-    let a = src[i];
-    let b = src[i + 1];
-    let c = src[i + below];
-    let d = src[i + 1 + below];
-    match mix {
-        Mix::Weigh(wa, wb, wc, wd) => weigh(a, b, c, d, wa, wb, wc, wd),
-        Mix::Across(near, far) => blend(a, b, c, d, near, far),
-        Mix::Down(near, far) => blend(a, c, b, d, near, far),
-    }
-}
-
-fn mix_pair(dst: &mut [u8], src: &[u8], to: usize, from: usize, below: usize, mix: Mix)
-    requires { ⌜ Even mix ⌝ }
-    requires { ⌜ (to + 2 ≤ length (now dst)) × (from + 2 + below < length (now src)) ⌝ }
-    ensures { λ _. ⌜ now (dst .exit) ≡ row (now (dst .entry)) to (fourRow (mixed mix) (now (src .entry)) 1 below from) 2 ⌝ }
-{
-    let left = mix_sample(src, from, below, mix);
-    let right = mix_sample(src, from + 1, below, mix);
-    dst[to] = left;
-    dst[to + 1] = right;
-}
-
-// A block of two columns: too few for the compiler's way of 4 or 16 at once.
-fn mix_two(
-    dst: &mut [u8],
-    src: &[u8],
-    dstride: usize,
-    dx: usize,
-    dy: usize,
-    h: usize,
-    stride: usize,
-    from: usize,
-    mix: Mix,
-)
-    requires { ⌜ Even mix ⌝ }
-    requires { ⌜ Inside dstride dx dy 2 h (length (now dst)) ⌝ }
-    requires { ⌜ from + h * stride + 2 < length (now src) ⌝ }
-    ensures { λ _. ⌜ now (dst .exit) ≡ painted dstride dx dy 2 h (fourBlock (mixed mix) (now (src .entry)) stride from) (now (dst .entry)) ⌝ }
-{
-    let mut r = 0;
-    while r < h {
-        mix_pair(
-            dst,
-            src,
-            (dy + r) * dstride + dx,
-            from + r * stride,
-            stride,
-            mix,
-        );
-        r += 1;
-    }
-}
-
 // How far a phase goes: 0 not at all, 1 a third of the way, 2 half of it, 3 two thirds.
 fn way_of(p: u32) -> u32
     requires { ⌜ p < 6 ⌝ }
@@ -208,7 +97,7 @@ fn way_of(p: u32) -> u32
 }
 
 // The mixes of a way down, by the way across, the lowest first. A mix has four hexadecimal digits: the weights of the four taps, the first
-// tap's the lowest; or, below e for halfway down and below f for halfway across, the two weights of the sum 6.
+// tap's the lowest; or, below e for halfway down and below f for halfway across, the weights of the two means.
 // A look-up, since phases are too many for a processor to foresee them.
 fn mixes_of(down: u32) -> u64
     requires { ⌜ down < 4 ⌝ }
@@ -216,9 +105,9 @@ fn mixes_of(down: u32) -> u64
 {
     match down {
         0 => 0x0084_0066_0048_000c,
-        1 => 0x3243_f024_2334_0408,
-        2 => 0xe042_3333_e024_0606,
-        _ => 0x4332_f042_3423_0804,
+        1 => 0x3243_f048_2334_0408,
+        2 => 0xe084_3333_e048_0606,
+        _ => 0x4332_f084_3423_0804,
     }
 }
 
@@ -230,23 +119,37 @@ fn mix_code(px: u32, py: u32) -> u32
     ((mixes_of(way_of(py)) >> shift) % 65536) as u32
 }
 
-// The mix of two phases.
-pub fn mix_of(px: u32, py: u32) -> Mix
-    requires { ⌜ (px < 6) × (py < 6) ⌝ }
-    ensures { λ r. ⌜ MixFor px py r ⌝ }
+// A choice that needs no branch.
+fn pick(t: bool, a: usize, b: usize) -> usize
+    ensures { λ r. ⌜ r ≡ (if t then a else b) ⌝ }
+{
+    if t { a } else { b }
+}
+
+// The first digit of a code as a weight: e and f are none.
+fn last_weight(kind: u32) -> u16
+    ensures { λ r. ⌜ r ≡ (if ltb kind 14 then kind else 0) ⌝ }
+{
+    if kind < 14 { kind as u16 } else { 0 }
+}
+
+// The mix of two phases, for a source whose rows are `below` samples long.
+pub fn mix_of(px: u32, py: u32, below: usize) -> Mix
+    requires { ⌜ (px < 6) × (py < 6) × (below < 0x8000000000000000) ⌝ }
+    ensures { λ r. ⌜ MixFor px py below r ⌝ }
 {
     let code = mix_code(px, py);
-    let a = (code % 16) as u16;
-    let b = (code / 16 % 16) as u16;
-    if 0xf000 <= code {
-        return Mix::Across(a, b);
+    let kind = code / 4096;
+    let across = kind == 15;
+    Mix {
+        beside: pick(across, 1, pick(kind == 14, below, 0)),
+        second: pick(across, below, 1),
+        other: pick(14 <= kind, below + 1, 1),
+        wa: (code % 16) as u16,
+        wb: (code / 16 % 16) as u16,
+        wc: (code / 256 % 16) as u16,
+        wd: last_weight(kind),
     }
-    if 0xe000 <= code {
-        return Mix::Down(a, b);
-    }
-    let c = (code / 256 % 16) as u16;
-    let d = (code / 4096) as u16;
-    Mix::Weigh(a, b, c, d)
 }
 
 // How many taps past its samples a block reads, each way.
@@ -284,7 +187,7 @@ fn copy_rows(
 }
 
 // The same, with the widths of partitions known to the compiler.
-fn copy_by_width(
+pub fn copy_by_width(
     dst: &mut [u8],
     src: &[u8],
     dstride: usize,
@@ -330,20 +233,8 @@ pub fn interpolate(
 {
     if extra_of(px, py) == 0 {
         copy_by_width(dst, src, dstride, dx, dy, w, h, stride, from);
-    } else if w == 2 {
-        mix_two(dst, src, dstride, dx, dy, h, stride, from, mix_of(px, py));
     } else {
-        mix_block(
-            dst,
-            src,
-            dstride,
-            dx,
-            dy,
-            w,
-            h,
-            stride,
-            from,
-            mix_of(px, py),
-        );
+        let mix = mix_of(px, py, stride);
+        mix_block(dst, src, dstride, dx, dy, w, h, stride, from, mix);
     }
 }

@@ -11,10 +11,10 @@ ghost use Rattle.compensation.specs.Taps.{Placed, TapsIn};
 ghost use Rattle.compensation.specs.Block.{Whole, Span, sidesFit, blockAnswer, blockOut, halved};
 use crate::kernel::extra_of;
 use crate::kernel::interpolate;
+use crate::tiles::interpolate_one;
+use crate::tiles::interpolate_pair;
 use crate::window::gather;
 use crate::window::origin;
-use ints::floor_div;
-use ints::floor_mod;
 use ints::half_toward_zero;
 use refusal::Refusal;
 
@@ -23,12 +23,15 @@ pub struct MvComponentSplit {
     pub phase: u32,
 }
 
+// Rounded down by one unsigned division: 6 · 2^30 is more than any vector is below 0.
 pub fn split_mv_component(v: i32) -> MvComponentSplit
     ensures { λ r. ⌜ (r .whole ≡ floorZ v 6) × (r .phase ≡ modZ v 6) ⌝ }
 {
+    let u = ((v as i64) + 0x1_8000_0000) as u64;
+    let q = u / 6;
     MvComponentSplit {
-        whole: floor_div(v, 6),
-        phase: floor_mod(v, 6),
+        whole: ((q as i64) - 0x4000_0000) as i32,
+        phase: (u - 6 * q) as u32,
     }
 }
 
@@ -120,7 +123,7 @@ pub fn compensate_taps(
     let by = t.by;
     if t.inside {
         let from = (by - 17) * width + (bx - 17);
-        interpolate(dst, plane, dstride, dx, dy, w, h, width, from, px, py);
+        interpolate_one(dst, plane, dstride, dx, dy, w, h, width, from, px, py);
     } else {
         across_edge(
             dst,
@@ -137,6 +140,38 @@ pub fn compensate_taps(
             px,
             py,
         );
+    }
+}
+
+// The same block of two planes of the same size, each into the place that its source has it at.
+pub fn compensate_both(
+    cb: &mut [u8],
+    cr: &mut [u8],
+    rcb: &[u8],
+    rcr: &[u8],
+    dx: usize,
+    dy: usize,
+    w: usize,
+    h: usize,
+    width: usize,
+    height: usize,
+    t: Taps,
+)
+    requires { ⌜ Span w h × Inside width dx dy w h (length (now cb)) × Inside width dx dy w h (length (now cr)) ⌝ }
+    requires { ⌜ Whole width height (length (now rcb)) × Whole width height (length (now rcr)) × TapsIn width height w h t ⌝ }
+    ensures { λ _. ⌜ now (cb .exit) ≡ painted width dx dy w h (windowBlock (formula (t .px) (t .py)) (now (rcb .entry)) width height (t .bx) (t .by)) (now (cb .entry)) ⌝ }
+    ensures { λ _. ⌜ now (cr .exit) ≡ painted width dx dy w h (windowBlock (formula (t .px) (t .py)) (now (rcr .entry)) width height (t .bx) (t .by)) (now (cr .entry)) ⌝ }
+{
+    let px = t.px;
+    let py = t.py;
+    let bx = t.bx;
+    let by = t.by;
+    if t.inside {
+        let from = (by - 17) * width + (bx - 17);
+        interpolate_pair(cb, cr, rcb, rcr, width, dx, dy, w, h, from, px, py);
+    } else {
+        across_edge(cb, rcb, width, dx, dy, w, h, width, height, bx, by, px, py);
+        across_edge(cr, rcr, width, dx, dy, w, h, width, height, bx, by, px, py);
     }
 }
 

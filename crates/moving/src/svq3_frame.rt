@@ -11,6 +11,7 @@ ghost use Rattle.compensation.specs.Taps.{Placed, TapsIn};
 ghost use Rattle.vectors.specs.Modes.{partitionWidth, partitionHeight, numMotionVectors};
 ghost use Rattle.moving.specs.Moved.{unit, planeLength, partX, partY, vectorX, vectorY, movedOnce, movedUpTo};
 use compensation::svq3_mc::Taps;
+use compensation::svq3_mc::compensate_both;
 use compensation::svq3_mc::compensate_taps;
 use compensation::svq3_mc::taps_of;
 use ints::half_toward_zero;
@@ -137,8 +138,7 @@ fn compensate_pair(
     let height = 8 * rows;
     let p = part_of(call, true, i);
     let t = taps_in(vectors, cols, rows, true, p, i);
-    compensate_taps(cb, rcb, width, p.x, p.y, p.w, p.h, width, height, t);
-    compensate_taps(cr, rcr, width, p.x, p.y, p.w, p.h, width, height, t);
+    compensate_both(cb, cr, rcb, rcr, p.x, p.y, p.w, p.h, width, height, t);
 }
 
 // All partitions of both chroma planes.

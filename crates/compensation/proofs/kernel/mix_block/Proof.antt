@@ -6,12 +6,12 @@ use denote.Ref.{now}
 use lib.ListN.{length}
 use Rattle.picture.specs.Rows.{rows}
 use Rattle.picture.proofs.Laws.{Row, inside-row, more, rows-more, rows-painted}
-use Rattle.compensation.specs.Kernel.{mixed, fourBlock}
+use Rattle.compensation.specs.Kernel.{mixedBlock}
 use Rattle.compensation.proofs.kernel.mix_block.Statement.{statement}
 use Rattle.compensation.proofs.kernel.mix_block.Tie as tie
 
 abbrev Inv-loop : tie.InvT-loop
-Inv-loop dst₀ src dstride dx dy w h stride from mix r₀ dst r = (r ≤ h) × (length dst ≡ length dst₀) × (dst ≡ rows dst₀ dstride dx dy (fourBlock (mixed mix) src stride from) w r)
+Inv-loop dst₀ src dstride dx dy w h stride from mix r₀ dst r = (r ≤ h) × (length dst ≡ length dst₀) × (dst ≡ rows dst₀ dstride dx dy (mixedBlock mix src stride from) w r)
 
 abbrev μ-loop : tie.MeasureT-loop
 μ-loop dst₀ src dstride dx dy w h stride from mix r₀ dst r = h - r
@@ -28,11 +28,11 @@ mix-row-requires : tie.Need-mix-row-requires Inv-loop μ-loop
 mix-row-requires c κs = (c .before .before .before .before .before .pre .0, omega (arith, lies c))
 
 loop-again : tie.Need-loop-again Inv-loop μ-loop
-unfolding fourBlock
+unfolding mixedBlock
 loop-again c =
     let a = c .before .before .before .before .before .before .before .before .args in
     let l = c .before .before .before .before .before .loop in
-    (omega arith, omega (arith, c .before .before .mix-row .kept .0), rows-more (a .dst .now) (a .dstride) (a .dx) (a .dy) (fourBlock (mixed (a .mix)) (a .src .now) (a .stride) (a .from)) (a .w) (l .r) (l .inv .2) (c .before .before .mix-row .ensures))
+    (omega arith, omega (arith, c .before .before .mix-row .kept .0), rows-more (a .dst .now) (a .dstride) (a .dx) (a .dy) (mixedBlock (a .mix) (a .src .now) (a .stride) (a .from)) (a .w) (l .r) (l .inv .2) (c .before .before .mix-row .ensures))
 
 returns : tie.Need-returns Inv-loop μ-loop
 returns c =

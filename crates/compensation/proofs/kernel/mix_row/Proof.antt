@@ -1,48 +1,69 @@
--- `compensation::kernel::mix_row` meets its contract: by the kind of the mix.
-use mathlib.Core.Path.{_∙_}
+-- `compensation::kernel::mix_row` meets its contract: one sample a turn.
+use mathlib.Core.Path.{_≡_, refl, _∙_}
+use Prim.Native.Nat.{_≤_, _+_, _-_}
 use native.Mathlib.Omega.{arith}
-use Rattle.compensation.proofs.MixRows.{row-weigh, row-across, row-down}
+use lib.ListN.{length, getD, length-set}
 use borrow.Author.Needs.{needs}
+use Rattle.picture.specs.Rows.{row}
+use Rattle.picture.proofs.Laws.{row-more}
+use Rattle.compensation.specs.Kernel.{weighed, mixedAt, mixedRow}
 use Rattle.compensation.proofs.kernel.mix_row.Statement.{statement}
 use Rattle.compensation.proofs.kernel.mix_row.Tie as tie
 
-weigh-row-requires : tie.Need-weigh-row-requires
-weigh-row-requires c κs = (rw (c .before .before .mix .given .1) at (c .before .before .before .before .before .before .pre .0), omega arith)
+abbrev Inv-loop : tie.InvT-loop
+Inv-loop dst₀ src to from below n mix c₀ dst c = (c ≤ n) × (length dst ≡ length dst₀) × (dst ≡ row dst₀ to (mixedRow mix src below from) c)
 
-blend-row-requires : tie.Need-blend-row-requires
-blend-row-requires c κs = (rw (c .before .before .mix2 .given .1) at (c .before .before .before .before .before .before .pre .0), omega arith)
+abbrev μ-loop : tie.MeasureT-loop
+μ-loop dst₀ src to from below n mix c₀ dst c = n - c
 
-blend-row-requires-2 : tie.Need-blend-row-requires-2
-blend-row-requires-2 c κs = (rw (c .before .before .mix3 .given .1) at (c .before .before .before .before .before .before .pre .0), omega arith)
+loop-holds : tie.Need-loop-holds Inv-loop μ-loop
+unfolding row
+loop-holds c = (omega arith, refl, refl)
 
-returns : tie.Need-returns
+loop-again : tie.Need-loop-again Inv-loop μ-loop
+unfolding mixedRow mixedAt
+loop-again c =
+    let a = c .before .before .before .before .before .before .before .before .before .before .before .before .before .before .before .before .args in
+    let m = a .mix in
+    let l = c .before .before .before .before .before .before .before .before .before .before .before .before .before .loop in
+    let i = a .from + l .c in
+    let p = c .before .before .before .before .before .before .before .before .halfway .ensures in
+    let q = c .before .before .before .halfway2 .ensures in
+    let v = c .weigh .ensures ∙ (λ j. weighed (m .wa) (m .wb) (m .wc) (m .wd) (p j) (q j) (getD (a .src .now) (i + a .below) 0) (getD (a .src .now) (i + a .below + 1) 0)) in
+    (omega arith, simp length-set (omega arith), row-more (a .dst .now) (a .to) (mixedRow m (a .src .now) (a .below) (a .from)) (l .c) (l .inv .2) v)
+
+returns : tie.Need-returns Inv-loop μ-loop
 returns c =
-    let a = c .before .before .before .before .before .before .before .before .before .args in
-    rw (c .before .before .before .before .before .mix .given .1) (c .before .before .weigh-row .ensures ∙ row-weigh (a .dst .now) (a .to) (a .src .now) (a .below) (a .from) (a .n) _ _ _ _)
-
-returns-2 : tie.Need-returns-2
-returns-2 c =
-    let a = c .before .before .before .before .before .before .before .before .before .args in
-    rw (c .before .before .before .before .before .mix2 .given .1) (c .before .before .blend-row .ensures ∙ row-across (a .dst .now) (a .to) (a .src .now) (a .below) (a .from) (a .n) _ _)
-
-returns-3 : tie.Need-returns-3
-returns-3 c =
-    let a = c .before .before .before .before .before .before .before .before .before .args in
-    rw (c .before .before .before .before .before .mix3 .given .1) (c .before .before .blend-row2 .ensures ∙ row-down (a .dst .now) (a .to) (a .src .now) (a .below) (a .from) (a .n) _ _)
+    let e : c .before .loop .c ≡ c .before .before .before .before .args .n = omega arith in
+    rw (← e) (c .before .loop .inv .2)
 
 pub mix-row-spec : {M : Type 1} → statement M
 mix-row-spec =
     tie.close
     (tie.spec
-    (λ c. search needs)
-    weigh-row-requires
-    (λ c. search needs)
-    blend-row-requires
-    (λ c. search needs)
-    blend-row-requires-2
-    (λ c. search needs)
-    returns
-    (λ c. search needs)
-    returns-2
-    (λ c. search needs)
-    returns-3)
+    Inv-loop
+    μ-loop
+    loop-holds
+    (λ c. omega arith)
+    (λ c. omega arith)
+    (λ c. omega arith)
+    (λ c. omega arith)
+    (λ c κs. search needs)
+    (λ c. omega arith)
+    (λ c. omega arith)
+    (λ c. omega arith)
+    (λ c. omega arith)
+    (λ c κs. search needs)
+    (λ c. omega arith)
+    (λ c. omega arith)
+    (λ c. omega arith)
+    (λ c. omega arith)
+    (λ c. omega arith)
+    (λ c κs. search needs)
+    (λ c. omega arith)
+    (λ c. omega arith)
+    (λ c. omega arith)
+    (λ c. omega arith)
+    loop-again
+    (λ c. omega arith)
+    returns)

@@ -26,28 +26,23 @@ taps-in-requires c κs =
       (ready (placed c) (a .cols) (a .rows) g (s .pre .0 .1) (s .pre .0 .2) (s .pre .1 .0) (s .pre .1 .1) .0, rw (c .part-of .ensures .0 .0) (m .0), rw (c .part-of .ensures .0 .1) (m .1)),
     )
 
-compensate-taps-requires : tie.Need-compensate-taps-requires
-compensate-taps-requires c κs =
-    let s = c .before .before .before .before .before .before .before in
-    let r = ready (placed (c .before .before)) (s .args .cols) (s .args .rows) (s .pre .0 .0) (s .pre .0 .1) (s .pre .0 .2) (s .pre .1 .0) (s .pre .1 .1) in
-    (r .0, r .1, r .2, c .before .taps-in .ensures .1)
-
-compensate-taps-requires-2 : tie.Need-compensate-taps-requires-2
-compensate-taps-requires-2 c κs =
-    let s = c .before .before .before .before .before .before .before .before .before .before .before in
-    let r = ready (placed (c .before .before .before .before .before .before)) (s .args .cols) (s .args .rows) (s .pre .0 .0) (s .pre .0 .1) (s .pre .0 .2) (s .pre .1 .2) (s .pre .1 .3) in
-    (r .0, r .1, r .2, c .before .before .before .before .before .taps-in .ensures .1)
+compensate-both-requires : tie.Need-compensate-both-requires
+compensate-both-requires c κs =
+    let s = c .before .before .before .before .before .before .before .before in
+    let p = placed (c .before .before .before) in
+    let b = ready p (s .args .cols) (s .args .rows) (s .pre .0 .0) (s .pre .0 .1) (s .pre .0 .2) (s .pre .1 .0) (s .pre .1 .1) in
+    let r = ready p (s .args .cols) (s .args .rows) (s .pre .0 .0) (s .pre .0 .1) (s .pre .0 .2) (s .pre .1 .2) (s .pre .1 .3) in
+    ((b .0, b .1, r .1), (b .2, r .2, c .before .before .taps-in .ensures .1))
 
 returns : tie.Need-returns
 returns c =
-    let s = c .before .before .before .before .before .before .before .before .before .before .before .before .before .before in
+    let s = c .before .before .before .before .before .before .before .before .before .before .before .before .before in
     let a = s .args in
-    let p = placed (c .before .before .before .before .before .before .before .before .before) in
+    let p = placed (c .before .before .before .before .before .before .before .before) in
     let span = ready p (a .cols) (a .rows) (s .pre .0 .0) (s .pre .0 .1) (s .pre .0 .2) (s .pre .1 .0) (s .pre .1 .1) .0 in
-    let t = c .before .before .before .before .before .before .before .before .taps-in .ensures .0 in (
-      moved-taps p (a .cols) (a .rows) (a .rcb .now) (a .vectors .now) (a .cb .now) span t (c .before .before .before .before .before .before .compensate-taps .ensures),
-      moved-taps p (a .cols) (a .rows) (a .rcr .now) (a .vectors .now) (a .cr .now) span t (c .before .before .compensate-taps2 .ensures),
-    )
+    let t = c .before .before .before .before .before .before .before .taps-in .ensures .0 in
+    let q = c .before .before .before .before .compensate-both .ensures in
+    (moved-taps p (a .cols) (a .rows) (a .rcb .now) (a .vectors .now) (a .cb .now) span t (q .0), moved-taps p (a .cols) (a .rows) (a .rcr .now) (a .vectors .now) (a .cr .now) span t (q .1))
 
 pub compensate-pair-spec : {M : Type 1} → statement M
 compensate-pair-spec =
@@ -57,8 +52,7 @@ compensate-pair-spec =
     (λ c. omega (arith, c .before .before .before .before .pre .0 .0 .high))
     (λ c κs. (c .before .before .before .before .pre .0 .1, c .before .before .before .before .pre .0 .2))
     taps-in-requires
-    compensate-taps-requires
-    compensate-taps-requires-2
-    (λ c. c .before .before .before .before .before .before .compensate-taps .kept .0)
-    (λ c. c .before .before .compensate-taps2 .kept .0)
+    compensate-both-requires
+    (λ c. c .before .before .before .before .compensate-both .kept .0)
+    (λ c. c .before .before .before .before .compensate-both .kept .1 .0)
     returns)

@@ -1,0 +1,35 @@
+-- A vector raised by a multiple of six, so that it is not below 0: its quotient and remainder are those of rounding down.
+-- Assumes nothing.
+use mathlib.Core.Path.{_≡_, refl, sym, ap, _∙_}
+use Prim.Native.Nat.{ℕ, _+_, _*_, _-_, _/_, _%_, _<_}
+use native.Mathlib.Omega.{arith}
+use lib.IntN.{ℤ, pos, natAbs, _+ℤ_, _-ℤ_}
+use lib.Signed.{mag, pos-natAbs}
+use Rattle.ints.specs.Z.{floorZ, modZ}
+use Rattle.ints.proofs.Linear.{z-rules, add-z, diff-z, abs-z, mag-z}
+use Rattle.ints.proofs.Laws.{floor-shift}
+
+module _ (z : ℤ) (small : mag z < 2147483648) where
+  abbrev pub raised : ℕ
+  raised = natAbs (z +ℤ pos 6442450944)
+
+  pub raised-is : z +ℤ pos 6442450944 ≡ pos raised
+  raised-is = sym (pos-natAbs (z +ℤ pos 6442450944) (omega (arith, z-rules, add-z z (pos 6442450944), mag-z z, mag-z (z +ℤ pos 6442450944))))
+
+  pub raised-small : raised < 8589934592
+  raised-small = omega (arith, z-rules, raised-is, add-z z (pos 6442450944), mag-z z)
+
+  shifted : pos 6442450944 +ℤ z ≡ pos raised
+  shifted = omega (arith, z-rules, raised-is, add-z z (pos 6442450944), add-z (pos 6442450944) z)
+
+  pub raised-whole : pos (raised / 6) -ℤ pos 1073741824 ≡ floorZ z 6
+  unfolding floorZ
+  raised-whole =
+      let e : pos (raised / 6) ≡ pos 1073741824 +ℤ floorZ z 6 = ap (λ v. floorZ v 6) (sym shifted) ∙ floor-shift 6 (pos 1073741824) z (omega arith) .0 in
+      omega (arith, z-rules, e, add-z (pos 1073741824) (floorZ z 6), diff-z (pos (raised / 6)) (pos 1073741824))
+
+  pub raised-phase : raised - 6 * (raised / 6) ≡ modZ z 6
+  unfolding modZ
+  raised-phase =
+      let e : raised % 6 ≡ modZ z 6 = ap (λ v. modZ v 6) (sym shifted) ∙ floor-shift 6 (pos 1073741824) z (omega arith) .1 in
+      omega arith

@@ -1,0 +1,48 @@
+-- `compensation::tiles::interpolate_one` meets its contract: whole samples are copied, all others mixed.
+use mathlib.Core.Path.{_≡_, sym, _∙_}
+use Prim.Native.Nat.{_+_, _-_, _*_, _<_}
+use native.Mathlib.Omega.{arith}
+use lib.ListN.{length}
+use borrow.Author.Needs.{needs}
+use Rattle.compensation.specs.Kernel.{extra}
+use Rattle.compensation.proofs.Mixes.{mixed-block}
+use Rattle.compensation.proofs.Taps.{extra-zero, mixed-room}
+use Rattle.compensation.proofs.tiles.interpolate_one.Statement.{statement}
+use Rattle.compensation.proofs.tiles.interpolate_one.Tie as tie
+
+room : (c : tie.Else1) → let a = c .before .before .before .before .args in (a .from + a .h * a .stride + a .w < length (a .src .now)) × (a .stride < length (a .src .now))
+room c =
+    let s = c .before .before .before .before in
+    let a = s .args in
+    let one : extra (a .px) (a .py) ≡ 1 = omega (arith, c .before .extra-of .ensures) in
+    mixed-room (a .px) (a .py) (a .stride) (a .from) (length (a .src .now)) (s .pre .0) one (s .pre .4)
+
+mix-of-requires : tie.Need-mix-of-requires
+mix-of-requires c κs = let s = c .before .before .before .before in (s .pre .2, s .pre .3, omega (arith, room c))
+
+mix-one-requires : tie.Need-mix-one-requires
+mix-one-requires c κs = (c .before .mix-of .ensures .even, (c .before .before .before .before .before .before .pre .1, room (c .before .before) .0))
+
+returns : tie.Need-returns
+returns c =
+    let a = c .before .before .before .before .before .before .before .before .args in
+    let none = extra-zero (a .px) (a .py) (sym (c .before .before .before .before .before .extra-of .ensures .0) ∙ c .before .before .before .before .if1 .taken) in
+    rw (none .0, none .1) (c .before .before .copy-by-width .ensures)
+
+returns-2 : tie.Need-returns-2
+returns-2 c =
+    let a = c .before .before .before .before .before .before .before .before .before .args in
+    c .before .before .mix-one .ensures ∙ mixed-block (a .dstride) (a .dx) (a .dy) (a .w) (a .h) (a .src .now) (a .stride) (a .from) (a .dst .now) (c .before .before .before .before .mix-of .ensures)
+
+pub interpolate-one-spec : {M : Type 1} → statement M
+interpolate-one-spec =
+    tie.close
+    (tie.spec
+    (λ c κs. search needs)
+    (λ c κs. search needs)
+    mix-of-requires
+    mix-one-requires
+    (λ c. search needs)
+    returns
+    (λ c. search needs)
+    returns-2)

@@ -1,0 +1,451 @@
+// Blocks of the usual widths, whose taps lie in the source: up to sixteen samples at once, as a tile.
+// Tiles have literal sizes, their loops run over lanes, and all loads come before the stores: so the compiler unrolls the loops and mixes all lanes at once.
+// Each `tile_` and `both_` function is called at one place: so the compiler makes it part of the loop there.
+ghost use mathlib.Core.Path.{_≡_};
+ghost use Prim.Native.Nat.{_+_, _*_, _-_, _%_, _<_, _≤_};
+ghost use lib.ListN.{length, replicate};
+ghost use Rattle.picture.specs.Painted.{Inside, painted};
+ghost use Rattle.picture.specs.Rows.{row};
+ghost use Rattle.compensation.specs.Formula.{formula};
+ghost use Rattle.compensation.specs.Kernel.{Even, mixedBlock, fourBlock, extra};
+ghost use Rattle.compensation.specs.Lanes.{laneAt, tiled, takenAt, Holds, mixedLane};
+ghost use Rattle.compensation.specs.Block.{Span};
+use crate::kernel::Mix;
+use crate::kernel::copy_by_width;
+use crate::kernel::extra_of;
+use crate::kernel::halfway;
+use crate::kernel::mix_block;
+use crate::kernel::mix_of;
+use crate::kernel::weigh;
+
+// w × h samples of `src`, row after row, into the lanes from `at` on.
+fn load_lanes(
+    t: &mut [u8; 16],
+    src: &[u8],
+    at: usize,
+    from: usize,
+    stride: usize,
+    w: usize,
+    h: usize,
+)
+    requires { ⌜ (0 < w) × (at + w * h ≤ 16) × (from + h * stride + w ≤ length (now src) + stride) ⌝ }
+    ensures { λ _. ⌜ now (t .exit) ≡ row (now (t .entry)) at (laneAt (now (src .entry)) from stride w) (w * h) ⌝ }
+{
+    let mut k = 0;
+    while k < w * h {
+        t[at + k] = src[from + (k / w * stride + k % w)];
+        k += 1;
+    }
+}
+
+// The w × h lanes from `at` on, into `dst` at column x of row y.
+fn store_lanes(
+    dst: &mut [u8],
+    stride: usize,
+    x: usize,
+    y: usize,
+    w: usize,
+    h: usize,
+    t: [u8; 16],
+    at: usize,
+)
+    requires { ⌜ (0 < w) × (0 < h) × (at + w * h ≤ 16) × Inside stride x y w h (length (now dst)) ⌝ }
+    ensures { λ _. ⌜ now (dst .exit) ≡ painted stride x y w h (tiled t at w) (now (dst .entry)) ⌝ }
+{
+    let to = y * stride + x;
+    let mut k = 0;
+    while k < w * h {
+        dst[to + (k / w * stride + k % w)] = t[at + k];
+        k += 1;
+    }
+}
+
+fn load_tile(src: &[u8], from: usize, stride: usize, w: usize, h: usize) -> [u8; 16]
+    requires { ⌜ (0 < w) × (w * h ≤ 16) × (from + h * stride + w ≤ length (now src) + stride) ⌝ }
+    ensures { λ r. ⌜ Holds r 0 w h (takenAt (now (src .entry)) stride from) ⌝ }
+{
+    let mut t = [0u8; 16];
+    load_lanes(&mut t, src, 0, from, stride, w, h);
+    t
+}
+
+// The same places of two planes: the second's from lane 8 on.
+fn load_both(cb: &[u8], cr: &[u8], from: usize, stride: usize, w: usize, h: usize) -> [u8; 16]
+    requires { ⌜ (0 < w) × (w * h ≤ 8) × (from + h * stride + w ≤ length (now cb) + stride) × (from + h * stride + w ≤ length (now cr) + stride) ⌝ }
+    ensures { λ r. ⌜ Holds r 0 w h (takenAt (now (cb .entry)) stride from) × Holds r 8 w h (takenAt (now (cr .entry)) stride from) ⌝ }
+{
+    let mut t = [0u8; 16];
+    load_lanes(&mut t, cb, 0, from, stride, w, h);
+    load_lanes(&mut t, cr, 8, from, stride, w, h);
+    t
+}
+
+// Sixteen samples by the six taps that a mix names.
+fn mix_lanes(
+    first: [u8; 16],
+    beside: [u8; 16],
+    second: [u8; 16],
+    other: [u8; 16],
+    below: [u8; 16],
+    far: [u8; 16],
+    mix: Mix,
+) -> [u8; 16]
+    requires { ⌜ mix .wa + mix .wb + mix .wc + mix .wd ≡ 12 ⌝ }
+    ensures { λ r. ⌜ r ≡ row (replicate 16 0) 0 (mixedLane mix first beside second other below far) 16 ⌝ }
+{
+    let mut t = [0u8; 16];
+    let mut k = 0;
+    while k < 16 {
+        let a = halfway(first[k], beside[k]);
+        let b = halfway(second[k], other[k]);
+        t[k] = weigh(a, b, below[k], far[k], mix.wa, mix.wb, mix.wc, mix.wd);
+        k += 1;
+    }
+    t
+}
+
+fn tile_16x1(src: &[u8], from: usize, stride: usize, mix: Mix) -> [u8; 16]
+    requires { ⌜ Even stride mix × (from + 1 * stride + 16 < length (now src)) ⌝ }
+    ensures { λ r. ⌜ Holds r 0 16 1 (mixedBlock mix (now (src .entry)) stride from) ⌝ }
+{
+    let first = load_tile(src, from, stride, 16, 1);
+    let beside = load_tile(src, from + mix.beside, stride, 16, 1);
+    let second = load_tile(src, from + mix.second, stride, 16, 1);
+    let other = load_tile(src, from + mix.other, stride, 16, 1);
+    let below = load_tile(src, from + stride, stride, 16, 1);
+    let far = load_tile(src, from + stride + 1, stride, 16, 1);
+    mix_lanes(first, beside, second, other, below, far, mix)
+}
+
+fn mix_16x1(
+    dst: &mut [u8],
+    src: &[u8],
+    dstride: usize,
+    dx: usize,
+    dy: usize,
+    h: usize,
+    stride: usize,
+    from: usize,
+    mix: Mix,
+)
+    requires { ⌜ Even stride mix ⌝ }
+    requires { ⌜ Inside dstride dx dy 16 h (length (now dst)) ⌝ }
+    requires { ⌜ from + h * stride + 16 < length (now src) ⌝ }
+    ensures { λ _. ⌜ now (dst .exit) ≡ painted dstride dx dy 16 h (mixedBlock mix (now (src .entry)) stride from) (now (dst .entry)) ⌝ }
+{
+    let mut r = 0;
+    while r < h {
+        let t = tile_16x1(src, from + r * stride, stride, mix);
+        store_lanes(dst, dstride, dx, dy + r, 16, 1, t, 0);
+        r += 1;
+    }
+}
+
+fn tile_8x2(src: &[u8], from: usize, stride: usize, mix: Mix) -> [u8; 16]
+    requires { ⌜ Even stride mix × (from + 2 * stride + 8 < length (now src)) ⌝ }
+    ensures { λ r. ⌜ Holds r 0 8 2 (mixedBlock mix (now (src .entry)) stride from) ⌝ }
+{
+    let first = load_tile(src, from, stride, 8, 2);
+    let beside = load_tile(src, from + mix.beside, stride, 8, 2);
+    let second = load_tile(src, from + mix.second, stride, 8, 2);
+    let other = load_tile(src, from + mix.other, stride, 8, 2);
+    let below = load_tile(src, from + stride, stride, 8, 2);
+    let far = load_tile(src, from + stride + 1, stride, 8, 2);
+    mix_lanes(first, beside, second, other, below, far, mix)
+}
+
+fn mix_8x2(
+    dst: &mut [u8],
+    src: &[u8],
+    dstride: usize,
+    dx: usize,
+    dy: usize,
+    h: usize,
+    stride: usize,
+    from: usize,
+    mix: Mix,
+)
+    requires { ⌜ Even stride mix × (h % 2 ≡ 0) ⌝ }
+    requires { ⌜ Inside dstride dx dy 8 h (length (now dst)) ⌝ }
+    requires { ⌜ from + h * stride + 8 < length (now src) ⌝ }
+    ensures { λ _. ⌜ now (dst .exit) ≡ painted dstride dx dy 8 h (mixedBlock mix (now (src .entry)) stride from) (now (dst .entry)) ⌝ }
+{
+    let mut r = 0;
+    while r < h {
+        let t = tile_8x2(src, from + r * stride, stride, mix);
+        store_lanes(dst, dstride, dx, dy + r, 8, 2, t, 0);
+        r += 2;
+    }
+}
+
+fn tile_4x4(src: &[u8], from: usize, stride: usize, mix: Mix) -> [u8; 16]
+    requires { ⌜ Even stride mix × (from + 4 * stride + 4 < length (now src)) ⌝ }
+    ensures { λ r. ⌜ Holds r 0 4 4 (mixedBlock mix (now (src .entry)) stride from) ⌝ }
+{
+    let first = load_tile(src, from, stride, 4, 4);
+    let beside = load_tile(src, from + mix.beside, stride, 4, 4);
+    let second = load_tile(src, from + mix.second, stride, 4, 4);
+    let other = load_tile(src, from + mix.other, stride, 4, 4);
+    let below = load_tile(src, from + stride, stride, 4, 4);
+    let far = load_tile(src, from + stride + 1, stride, 4, 4);
+    mix_lanes(first, beside, second, other, below, far, mix)
+}
+
+fn mix_4x4(
+    dst: &mut [u8],
+    src: &[u8],
+    dstride: usize,
+    dx: usize,
+    dy: usize,
+    h: usize,
+    stride: usize,
+    from: usize,
+    mix: Mix,
+)
+    requires { ⌜ Even stride mix × (h % 4 ≡ 0) ⌝ }
+    requires { ⌜ Inside dstride dx dy 4 h (length (now dst)) ⌝ }
+    requires { ⌜ from + h * stride + 4 < length (now src) ⌝ }
+    ensures { λ _. ⌜ now (dst .exit) ≡ painted dstride dx dy 4 h (mixedBlock mix (now (src .entry)) stride from) (now (dst .entry)) ⌝ }
+{
+    let mut r = 0;
+    while r < h {
+        let t = tile_4x4(src, from + r * stride, stride, mix);
+        store_lanes(dst, dstride, dx, dy + r, 4, 4, t, 0);
+        r += 4;
+    }
+}
+
+fn both_8x1(rcb: &[u8], rcr: &[u8], from: usize, stride: usize, mix: Mix) -> [u8; 16]
+    requires { ⌜ Even stride mix × (from + 1 * stride + 8 < length (now rcb)) × (from + 1 * stride + 8 < length (now rcr)) ⌝ }
+    ensures { λ r. ⌜ Holds r 0 8 1 (mixedBlock mix (now (rcb .entry)) stride from) × Holds r 8 8 1 (mixedBlock mix (now (rcr .entry)) stride from) ⌝ }
+{
+    let first = load_both(rcb, rcr, from, stride, 8, 1);
+    let beside = load_both(rcb, rcr, from + mix.beside, stride, 8, 1);
+    let second = load_both(rcb, rcr, from + mix.second, stride, 8, 1);
+    let other = load_both(rcb, rcr, from + mix.other, stride, 8, 1);
+    let below = load_both(rcb, rcr, from + stride, stride, 8, 1);
+    let far = load_both(rcb, rcr, from + stride + 1, stride, 8, 1);
+    mix_lanes(first, beside, second, other, below, far, mix)
+}
+
+fn pair_8x1(
+    cb: &mut [u8],
+    cr: &mut [u8],
+    rcb: &[u8],
+    rcr: &[u8],
+    stride: usize,
+    dx: usize,
+    dy: usize,
+    h: usize,
+    from: usize,
+    mix: Mix,
+)
+    requires { ⌜ Even stride mix ⌝ }
+    requires { ⌜ Inside stride dx dy 8 h (length (now cb)) × Inside stride dx dy 8 h (length (now cr)) ⌝ }
+    requires { ⌜ (from + h * stride + 8 < length (now rcb)) × (from + h * stride + 8 < length (now rcr)) ⌝ }
+    ensures { λ _. ⌜ now (cb .exit) ≡ painted stride dx dy 8 h (mixedBlock mix (now (rcb .entry)) stride from) (now (cb .entry)) ⌝ }
+    ensures { λ _. ⌜ now (cr .exit) ≡ painted stride dx dy 8 h (mixedBlock mix (now (rcr .entry)) stride from) (now (cr .entry)) ⌝ }
+{
+    let mut r = 0;
+    while r < h {
+        let t = both_8x1(rcb, rcr, from + r * stride, stride, mix);
+        store_lanes(cb, stride, dx, dy + r, 8, 1, t, 0);
+        store_lanes(cr, stride, dx, dy + r, 8, 1, t, 8);
+        r += 1;
+    }
+}
+
+fn both_4x2(rcb: &[u8], rcr: &[u8], from: usize, stride: usize, mix: Mix) -> [u8; 16]
+    requires { ⌜ Even stride mix × (from + 2 * stride + 4 < length (now rcb)) × (from + 2 * stride + 4 < length (now rcr)) ⌝ }
+    ensures { λ r. ⌜ Holds r 0 4 2 (mixedBlock mix (now (rcb .entry)) stride from) × Holds r 8 4 2 (mixedBlock mix (now (rcr .entry)) stride from) ⌝ }
+{
+    let first = load_both(rcb, rcr, from, stride, 4, 2);
+    let beside = load_both(rcb, rcr, from + mix.beside, stride, 4, 2);
+    let second = load_both(rcb, rcr, from + mix.second, stride, 4, 2);
+    let other = load_both(rcb, rcr, from + mix.other, stride, 4, 2);
+    let below = load_both(rcb, rcr, from + stride, stride, 4, 2);
+    let far = load_both(rcb, rcr, from + stride + 1, stride, 4, 2);
+    mix_lanes(first, beside, second, other, below, far, mix)
+}
+
+fn pair_4x2(
+    cb: &mut [u8],
+    cr: &mut [u8],
+    rcb: &[u8],
+    rcr: &[u8],
+    stride: usize,
+    dx: usize,
+    dy: usize,
+    h: usize,
+    from: usize,
+    mix: Mix,
+)
+    requires { ⌜ Even stride mix × (h % 2 ≡ 0) ⌝ }
+    requires { ⌜ Inside stride dx dy 4 h (length (now cb)) × Inside stride dx dy 4 h (length (now cr)) ⌝ }
+    requires { ⌜ (from + h * stride + 4 < length (now rcb)) × (from + h * stride + 4 < length (now rcr)) ⌝ }
+    ensures { λ _. ⌜ now (cb .exit) ≡ painted stride dx dy 4 h (mixedBlock mix (now (rcb .entry)) stride from) (now (cb .entry)) ⌝ }
+    ensures { λ _. ⌜ now (cr .exit) ≡ painted stride dx dy 4 h (mixedBlock mix (now (rcr .entry)) stride from) (now (cr .entry)) ⌝ }
+{
+    let mut r = 0;
+    while r < h {
+        let t = both_4x2(rcb, rcr, from + r * stride, stride, mix);
+        store_lanes(cb, stride, dx, dy + r, 4, 2, t, 0);
+        store_lanes(cr, stride, dx, dy + r, 4, 2, t, 8);
+        r += 2;
+    }
+}
+
+fn both_2x2(rcb: &[u8], rcr: &[u8], from: usize, stride: usize, mix: Mix) -> [u8; 16]
+    requires { ⌜ Even stride mix × (from + 2 * stride + 2 < length (now rcb)) × (from + 2 * stride + 2 < length (now rcr)) ⌝ }
+    ensures { λ r. ⌜ Holds r 0 2 2 (mixedBlock mix (now (rcb .entry)) stride from) × Holds r 8 2 2 (mixedBlock mix (now (rcr .entry)) stride from) ⌝ }
+{
+    let first = load_both(rcb, rcr, from, stride, 2, 2);
+    let beside = load_both(rcb, rcr, from + mix.beside, stride, 2, 2);
+    let second = load_both(rcb, rcr, from + mix.second, stride, 2, 2);
+    let other = load_both(rcb, rcr, from + mix.other, stride, 2, 2);
+    let below = load_both(rcb, rcr, from + stride, stride, 2, 2);
+    let far = load_both(rcb, rcr, from + stride + 1, stride, 2, 2);
+    mix_lanes(first, beside, second, other, below, far, mix)
+}
+
+fn pair_2x2(
+    cb: &mut [u8],
+    cr: &mut [u8],
+    rcb: &[u8],
+    rcr: &[u8],
+    stride: usize,
+    dx: usize,
+    dy: usize,
+    h: usize,
+    from: usize,
+    mix: Mix,
+)
+    requires { ⌜ Even stride mix × (h % 2 ≡ 0) ⌝ }
+    requires { ⌜ Inside stride dx dy 2 h (length (now cb)) × Inside stride dx dy 2 h (length (now cr)) ⌝ }
+    requires { ⌜ (from + h * stride + 2 < length (now rcb)) × (from + h * stride + 2 < length (now rcr)) ⌝ }
+    ensures { λ _. ⌜ now (cb .exit) ≡ painted stride dx dy 2 h (mixedBlock mix (now (rcb .entry)) stride from) (now (cb .entry)) ⌝ }
+    ensures { λ _. ⌜ now (cr .exit) ≡ painted stride dx dy 2 h (mixedBlock mix (now (rcr .entry)) stride from) (now (cr .entry)) ⌝ }
+{
+    let mut r = 0;
+    while r < h {
+        let t = both_2x2(rcb, rcr, from + r * stride, stride, mix);
+        store_lanes(cb, stride, dx, dy + r, 2, 2, t, 0);
+        store_lanes(cr, stride, dx, dy + r, 2, 2, t, 8);
+        r += 2;
+    }
+}
+
+// A block by tiles, where its width and height allow it: as `mix_block` answers it.
+fn mix_one(
+    dst: &mut [u8],
+    src: &[u8],
+    dstride: usize,
+    dx: usize,
+    dy: usize,
+    w: usize,
+    h: usize,
+    stride: usize,
+    from: usize,
+    mix: Mix,
+)
+    requires { ⌜ Even stride mix ⌝ }
+    requires { ⌜ Inside dstride dx dy w h (length (now dst)) ⌝ }
+    requires { ⌜ from + h * stride + w < length (now src) ⌝ }
+    ensures { λ _. ⌜ now (dst .exit) ≡ painted dstride dx dy w h (mixedBlock mix (now (src .entry)) stride from) (now (dst .entry)) ⌝ }
+{
+    if (w == 4) & (h % 4 == 0) {
+        mix_4x4(dst, src, dstride, dx, dy, h, stride, from, mix);
+    } else if (w == 8) & (h % 2 == 0) {
+        mix_8x2(dst, src, dstride, dx, dy, h, stride, from, mix);
+    } else if w == 16 {
+        mix_16x1(dst, src, dstride, dx, dy, h, stride, from, mix);
+    } else {
+        mix_block(dst, src, dstride, dx, dy, w, h, stride, from, mix);
+    }
+}
+
+// The same block of two planes.
+fn mix_pair(
+    cb: &mut [u8],
+    cr: &mut [u8],
+    rcb: &[u8],
+    rcr: &[u8],
+    stride: usize,
+    dx: usize,
+    dy: usize,
+    w: usize,
+    h: usize,
+    from: usize,
+    mix: Mix,
+)
+    requires { ⌜ Even stride mix ⌝ }
+    requires { ⌜ Inside stride dx dy w h (length (now cb)) × Inside stride dx dy w h (length (now cr)) ⌝ }
+    requires { ⌜ (from + h * stride + w < length (now rcb)) × (from + h * stride + w < length (now rcr)) ⌝ }
+    ensures { λ _. ⌜ now (cb .exit) ≡ painted stride dx dy w h (mixedBlock mix (now (rcb .entry)) stride from) (now (cb .entry)) ⌝ }
+    ensures { λ _. ⌜ now (cr .exit) ≡ painted stride dx dy w h (mixedBlock mix (now (rcr .entry)) stride from) (now (cr .entry)) ⌝ }
+{
+    if (w == 2) & (h % 2 == 0) {
+        pair_2x2(cb, cr, rcb, rcr, stride, dx, dy, h, from, mix);
+    } else if (w == 4) & (h % 2 == 0) {
+        pair_4x2(cb, cr, rcb, rcr, stride, dx, dy, h, from, mix);
+    } else if w == 8 {
+        pair_8x1(cb, cr, rcb, rcr, stride, dx, dy, h, from, mix);
+    } else {
+        mix_block(cb, rcb, stride, dx, dy, w, h, stride, from, mix);
+        mix_block(cr, rcr, stride, dx, dy, w, h, stride, from, mix);
+    }
+}
+
+// The block whose taps start at `from` of `src`, at the phases px and py, as `interpolate` answers it.
+pub fn interpolate_one(
+    dst: &mut [u8],
+    src: &[u8],
+    dstride: usize,
+    dx: usize,
+    dy: usize,
+    w: usize,
+    h: usize,
+    stride: usize,
+    from: usize,
+    px: u32,
+    py: u32,
+)
+    requires { ⌜ Span w h × Inside dstride dx dy w h (length (now dst)) × (px < 6) × (py < 6) × (from + (h - 1 + extra px py) * stride + w + extra px py ≤ length (now src)) ⌝ }
+    ensures { λ _. ⌜ now (dst .exit) ≡ painted dstride dx dy w h (fourBlock (formula px py) (now (src .entry)) stride from) (now (dst .entry)) ⌝ }
+{
+    if extra_of(px, py) == 0 {
+        copy_by_width(dst, src, dstride, dx, dy, w, h, stride, from);
+    } else {
+        let mix = mix_of(px, py, stride);
+        mix_one(dst, src, dstride, dx, dy, w, h, stride, from, mix);
+    }
+}
+
+// The same block of two planes, each at the same place of its source.
+pub fn interpolate_pair(
+    cb: &mut [u8],
+    cr: &mut [u8],
+    rcb: &[u8],
+    rcr: &[u8],
+    stride: usize,
+    dx: usize,
+    dy: usize,
+    w: usize,
+    h: usize,
+    from: usize,
+    px: u32,
+    py: u32,
+)
+    requires { ⌜ Span w h × Inside stride dx dy w h (length (now cb)) × Inside stride dx dy w h (length (now cr)) × (px < 6) × (py < 6) ⌝ }
+    requires { ⌜ (from + (h - 1 + extra px py) * stride + w + extra px py ≤ length (now rcb)) × (from + (h - 1 + extra px py) * stride + w + extra px py ≤ length (now rcr)) ⌝ }
+    ensures { λ _. ⌜ now (cb .exit) ≡ painted stride dx dy w h (fourBlock (formula px py) (now (rcb .entry)) stride from) (now (cb .entry)) ⌝ }
+    ensures { λ _. ⌜ now (cr .exit) ≡ painted stride dx dy w h (fourBlock (formula px py) (now (rcr .entry)) stride from) (now (cr .entry)) ⌝ }
+{
+    if extra_of(px, py) == 0 {
+        copy_by_width(cb, rcb, stride, dx, dy, w, h, stride, from);
+        copy_by_width(cr, rcr, stride, dx, dy, w, h, stride, from);
+    } else {
+        let mix = mix_of(px, py, stride);
+        mix_pair(cb, cr, rcb, rcr, stride, dx, dy, w, h, from, mix);
+    }
+}
