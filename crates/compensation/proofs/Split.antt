@@ -1,12 +1,12 @@
 -- A vector raised by a multiple of six, so that it is not below 0: its quotient and remainder are those of rounding down.
 -- Assumes nothing.
-use mathlib.Core.Path.{_≡_, refl, sym, ap, _∙_}
+use mathlib.Core.Path.{_≡_, sym, ap, _∙_}
 use Prim.Native.Nat.{ℕ, _+_, _*_, _-_, _/_, _%_, _<_}
 use native.Mathlib.Omega.{arith}
 use lib.IntN.{ℤ, pos, natAbs, _+ℤ_, _-ℤ_}
 use lib.Signed.{mag, pos-natAbs}
 use Rattle.ints.specs.Z.{floorZ, modZ}
-use Rattle.ints.proofs.Linear.{z-rules, add-z, diff-z, abs-z, mag-z}
+use Rattle.ints.proofs.Linear.{z-rules, add-z, diff-z, mag-z}
 use Rattle.ints.proofs.Laws.{floor-shift}
 
 module _ (z : ℤ) (small : mag z < 2147483648) where

@@ -213,28 +213,3 @@ pub fn copy_by_width(
         copy_rows(dst, src, dstride, dx, dy, w, h, stride, from);
     }
 }
-
-// The block whose taps start at `from` of `src`, at the phases px and py.
-pub fn interpolate(
-    dst: &mut [u8],
-    src: &[u8],
-    dstride: usize,
-    dx: usize,
-    dy: usize,
-    w: usize,
-    h: usize,
-    stride: usize,
-    from: usize,
-    px: u32,
-    py: u32,
-)
-    requires { ⌜ Span w h × Inside dstride dx dy w h (length (now dst)) × (px < 6) × (py < 6) × (from + (h - 1 + extra px py) * stride + w + extra px py ≤ length (now src)) ⌝ }
-    ensures { λ _. ⌜ now (dst .exit) ≡ painted dstride dx dy w h (fourBlock (formula px py) (now (src .entry)) stride from) (now (dst .entry)) ⌝ }
-{
-    if extra_of(px, py) == 0 {
-        copy_by_width(dst, src, dstride, dx, dy, w, h, stride, from);
-    } else {
-        let mix = mix_of(px, py, stride);
-        mix_block(dst, src, dstride, dx, dy, w, h, stride, from, mix);
-    }
-}

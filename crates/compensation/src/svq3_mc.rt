@@ -10,8 +10,7 @@ ghost use Rattle.compensation.specs.Kernel.{windowBlock};
 ghost use Rattle.compensation.specs.Taps.{Placed, TapsIn};
 ghost use Rattle.compensation.specs.Block.{Whole, Span, sidesFit, blockAnswer, blockOut, halved};
 use crate::kernel::extra_of;
-use crate::kernel::interpolate;
-use crate::tiles::interpolate_one;
+use crate::tiles::interpolate;
 use crate::tiles::interpolate_pair;
 use crate::window::gather;
 use crate::window::origin;
@@ -123,7 +122,7 @@ pub fn compensate_taps(
     let by = t.by;
     if t.inside {
         let from = (by - 17) * width + (bx - 17);
-        interpolate_one(dst, plane, dstride, dx, dy, w, h, width, from, px, py);
+        interpolate(dst, plane, dstride, dx, dy, w, h, width, from, px, py);
     } else {
         across_edge(
             dst,

@@ -396,8 +396,8 @@ fn mix_pair(
     }
 }
 
-// The block whose taps start at `from` of `src`, at the phases px and py, as `interpolate` answers it.
-pub fn interpolate_one(
+// The block whose taps start at `from` of `src`, at the phases px and py.
+pub fn interpolate(
     dst: &mut [u8],
     src: &[u8],
     dstride: usize,

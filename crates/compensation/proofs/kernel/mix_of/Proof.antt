@@ -1,11 +1,10 @@
 -- `compensation::kernel::mix_of` meets its contract: it answers what the code says.
-use mathlib.Core.Path.{_≡_, ap, _∙_}
+use mathlib.Core.Path.{ap, _∙_}
 use Prim.Native.Nat.{ℕ, _/_, _%_}
 use borrow.Author.Needs.{needs}
 use lib.Dec.{eqb}
 use Rattle.ints.specs.Z.{if_then_else_}
 use Rattle.compensation.specs.Kernel.{mixSaid}
-use Rattle.compensation.specs.declared.kernel.Mix.{Mix}
 use Rattle.compensation.proofs.Mixes.{said-so}
 use Rattle.compensation.proofs.kernel.mix_of.Statement.{statement}
 use Rattle.compensation.proofs.kernel.mix_of.Tie as tie

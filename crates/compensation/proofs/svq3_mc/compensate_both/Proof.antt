@@ -1,7 +1,6 @@
 -- `compensation::svq3_mc::compensate_both` meets its contract: read straight from the planes, or across an edge.
 use mathlib.Core.Path.{_∙_}
 use native.Mathlib.Omega.{arith}
-use borrow.Author.Needs.{needs}
 use Rattle.compensation.proofs.Taps.{taps-lie, taps-start, taps-room, taps-block}
 use Rattle.compensation.proofs.svq3_mc.compensate_both.Statement.{statement}
 use Rattle.compensation.proofs.svq3_mc.compensate_both.Tie as tie

@@ -3,7 +3,7 @@ use mathlib.Core.Path.{_≡_, refl, ap, _∙_}
 use Prim.Native.Nat.{_≤_, _<_, _+_, _-_, _*_, _/_, _%_}
 use native.Mathlib.Nat.{add-mul, mul-le-mul-right}
 use native.Mathlib.Omega.{arith}
-use lib.ListN.{length, getD, length-set}
+use lib.ListN.{length, length-set}
 use Rattle.picture.proofs.Laws.{rows-painted}
 use Rattle.compensation.specs.Lanes.{tiled}
 use Rattle.compensation.proofs.Lanes.{lane-place, cells, cells-none, cells-more, cells-all, lane-back}

@@ -1,4 +1,4 @@
--- `compensation::tiles::interpolate_one` meets its contract: whole samples are copied, all others mixed.
+-- `compensation::tiles::interpolate` meets its contract: whole samples are copied, all others mixed.
 use mathlib.Core.Path.{_≡_, sym, _∙_}
 use Prim.Native.Nat.{_+_, _-_, _*_, _<_}
 use native.Mathlib.Omega.{arith}
@@ -7,8 +7,8 @@ use borrow.Author.Needs.{needs}
 use Rattle.compensation.specs.Kernel.{extra}
 use Rattle.compensation.proofs.Mixes.{mixed-block}
 use Rattle.compensation.proofs.Taps.{extra-zero, mixed-room}
-use Rattle.compensation.proofs.tiles.interpolate_one.Statement.{statement}
-use Rattle.compensation.proofs.tiles.interpolate_one.Tie as tie
+use Rattle.compensation.proofs.tiles.interpolate.Statement.{statement}
+use Rattle.compensation.proofs.tiles.interpolate.Tie as tie
 
 room : (c : tie.Else1) → let a = c .before .before .before .before .args in (a .from + a .h * a .stride + a .w < length (a .src .now)) × (a .stride < length (a .src .now))
 room c =
@@ -34,8 +34,8 @@ returns-2 c =
     let a = c .before .before .before .before .before .before .before .before .before .args in
     c .before .before .mix-one .ensures ∙ mixed-block (a .dstride) (a .dx) (a .dy) (a .w) (a .h) (a .src .now) (a .stride) (a .from) (a .dst .now) (c .before .before .before .before .mix-of .ensures)
 
-pub interpolate-one-spec : {M : Type 1} → statement M
-interpolate-one-spec =
+pub interpolate-spec : {M : Type 1} → statement M
+interpolate-spec =
     tie.close
     (tie.spec
     (λ c κs. search needs)
