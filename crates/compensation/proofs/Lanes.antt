@@ -11,8 +11,7 @@ use lib.ListN.{length, getD, set, replicate}
 use Rattle.picture.specs.Painted.{Inside, painted}
 use Rattle.picture.specs.Rows.{row, rows}
 use Rattle.picture.proofs.Laws.{more, row-same, row-other, row-more, rows-painted, painted-values}
-use Rattle.compensation.specs.Formula.{half}
-use Rattle.compensation.specs.Kernel.{weighed, mixedAt, mixedRow, mixedBlock}
+use Rattle.compensation.specs.Kernel.{mixedTaps, mixedAt, mixedRow, mixedBlock}
 use Rattle.compensation.specs.Lanes.{laneOf, laneAt, tiled, takenAt, Holds, mixedLane}
 use Rattle.compensation.specs.declared.kernel.Mix.{Mix}
 
@@ -86,24 +85,20 @@ kept t at w h n v f e apart holds r c lr lc =
 
 -- ---- lanes that were mixed
 module _ (m : Mix) (src : List ℕ) (stride from at w h : ℕ) (room : at + w * h ≤ 16) where
-  pub mixed-tile : {t : List ℕ} (a a′ b b′ c d : List ℕ) → t ≡ row (replicate 16 0) 0 (mixedLane m a a′ b b′ c d) 16
-      → Holds a at w h (takenAt src stride from) → Holds a′ at w h (takenAt src stride (from + m .beside))
-      → Holds b at w h (takenAt src stride (from + m .second)) → Holds b′ at w h (takenAt src stride (from + m .other))
-      → Holds c at w h (takenAt src stride (from + stride)) → Holds d at w h (takenAt src stride (from + stride + 1))
+  pub mixed-tile : {t : List ℕ} (a b c d : List ℕ) → t ≡ row (replicate 16 0) 0 (mixedLane m a b c d) 16
+      → Holds a at w h (takenAt src stride from) → Holds b at w h (takenAt src stride (from + m .beside))
+      → Holds c at w h (takenAt src stride (from + m .second)) → Holds d at w h (takenAt src stride (from + (m .beside + m .second)))
       → Holds t at w h (mixedBlock m src stride from)
   unfolding Holds tiled takenAt mixedBlock mixedRow mixedAt mixedLane
-  mixed-tile {t} a a′ b b′ c d e ha ha′ hb hb′ hc hd r k lr lk =
+  mixed-tile {t} a b c d e ha hb hc hd r k lr lk =
       let i = at + (r * w + k) in
-      let lane : getD t i 0 ≡ mixedLane m a a′ b b′ c d i = rw e (rw zero-add at (row-same (replicate 16 0) 0 (mixedLane m a a′ b b′ c d) 16 i 0 (omega (arith, tile-lane w h r k lr lk)) (omega arith))) in
+      let lane : getD t i 0 ≡ mixedLane m a b c d i = rw e (rw zero-add at (row-same (replicate 16 0) 0 (mixedLane m a b c d) 16 i 0 (omega (arith, tile-lane w h r k lr lk)) (omega arith))) in
       let on : (n : ℕ) → getD src (from + n + r * stride + k) 0 ≡ getD src (from + r * stride + k + n) 0 = λ n. let q : from + n + r * stride + k ≡ from + r * stride + k + n = omega arith in ap (λ j. getD src j 0) q in
-      let far : from + stride + 1 + r * stride + k ≡ from + r * stride + k + stride + 1 = omega arith in
       let pa = ha r k lr lk in
-      let pa′ = ha′ r k lr lk ∙ on (m .beside) in
-      let pb = hb r k lr lk ∙ on (m .second) in
-      let pb′ = hb′ r k lr lk ∙ on (m .other) in
-      let pc = hc r k lr lk ∙ on stride in
-      let pd = hd r k lr lk ∙ ap (λ j. getD src j 0) far in
-      lane ∙ (λ j. weighed (m .wa) (m .wb) (m .wc) (m .wd) (half (pa j) (pa′ j)) (half (pb j) (pb′ j)) (pc j) (pd j))
+      let pb = hb r k lr lk ∙ on (m .beside) in
+      let pc = hc r k lr lk ∙ on (m .second) in
+      let pd = hd r k lr lk ∙ on (m .beside + m .second) in
+      lane ∙ (λ j. mixedTaps m (pa j) (pb j) (pc j) (pd j))
 
 -- ---- blocks one below the other
 inside-rows : {s x y w h size : ℕ} (r t : ℕ) → Inside s x y w h size → r + t ≤ h → Inside s x (y + r) w t size
@@ -130,7 +125,7 @@ tile-more {l} l₀ t s x y m src stride from at w h r e holds stored i =
     let v = mixedBlock m src stride from in
     let on : (k : ℕ) → from + r * stride + k * stride ≡ from + (r + k) * stride = λ k. omega (arith, add-mul r k stride) in
     stored
-    ∙ painted-values s x (y + r) w h (tiled t at w) (λ k. v (r + k)) l (λ k c lk lc. holds k c lk lc ∙ ap (λ (j : ℕ). mixedRow m src stride j c) (on k))
+    ∙ painted-values s x (y + r) w h (tiled t at w) (λ k. v (r + k)) l (λ k c lk lc. holds k c lk lc ∙ ap (λ (j : ℕ). mixedRow m src j c) (on k))
     ∙ sym (rows-painted 0 l (λ k. v (r + k)) i)
     ∙ ap (λ (k : List ℕ). rows k s x (y + r) (λ j. v (r + j)) w h) e
     ∙ rows-on l₀ s x y v w r h

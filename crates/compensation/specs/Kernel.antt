@@ -5,36 +5,46 @@ use mathlib.Core.Path.{_≡_}
 use mathlib.Core.List.{List, [], _∷_}
 use Prim.Native.Nat.{ℕ, _+_, _-_, _*_, _/_, _%_, _^_, _≤_, min}
 use mathlib.Core.Bool.{_&&_}
-use lib.Dec.{eqb, leb, ltb}
+use lib.Dec.{eqb}
 use lib.IntN.{ℤ, pos, negsuc, natAbs, _+ℤ_}
 use lib.ListN.{getD}
 use Rattle.ints.specs.Z.{if_then_else_, clampZ}
-use Rattle.compensation.specs.Formula.{half, formula}
+use Rattle.compensation.specs.Formula.{formula}
 use Rattle.compensation.specs.declared.kernel.Mix.{Mix}
 
 -- four values weighed
 unfoldable pub weighed : ℕ → ℕ → ℕ → ℕ → ℕ → ℕ → ℕ → ℕ → ℕ
 weighed wa wb wc wd a b c d = (wa * a + wb * b + wc * c + wd * d + 6) / 12
 
--- the sample whose first tap is i, in rows that are `below` long: two means and two taps, weighed
-unfoldable pub mixedAt : Mix → List ℕ → ℕ → ℕ → ℕ
-mixedAt m src below i =
-    let first = half (getD src i 0) (getD src (i + m .beside) 0) in
-    let second = half (getD src (i + m .second) 0) (getD src (i + m .other) 0) in
-    weighed (m .wa) (m .wb) (m .wc) (m .wd) first second (getD src (i + below) 0) (getD src (i + below + 1) 0)
+-- a tap by its pair's other one. With m = 1 both, so raised, sum up to twice their mean; with m = 0 each is itself
+unfoldable pub raised : ℕ → ℕ → ℕ → ℕ
+raised m a b = a + m * (b % 2 - a % 2)
+
+-- two pairs of taps, weighed
+unfoldable pub mixedTaps : Mix → ℕ → ℕ → ℕ → ℕ → ℕ
+mixedTaps m a b c d = let up = raised (m .means) in weighed (m .wa) (m .wb) (m .wc) (m .wd) (up a b) (up b a) (up c d) (up d c)
+
+-- the sample whose first tap is i
+unfoldable pub mixedAt : Mix → List ℕ → ℕ → ℕ
+mixedAt m src i = mixedTaps m (getD src i 0) (getD src (i + m .beside) 0) (getD src (i + m .second) 0) (getD src (i + (m .beside + m .second)) 0)
 
 -- at column c of the row that starts at `from`
-unfoldable pub mixedRow : Mix → List ℕ → ℕ → ℕ → ℕ → ℕ
-mixedRow m src below from c = mixedAt m src below (from + c)
+unfoldable pub mixedRow : Mix → List ℕ → ℕ → ℕ → ℕ
+mixedRow m src from c = mixedAt m src (from + c)
 
 -- at column c of row r of the block that starts at `from`
 unfoldable pub mixedBlock : Mix → List ℕ → ℕ → ℕ → ℕ → ℕ → ℕ
-mixedBlock m src stride from r = mixedRow m src stride (from + r * stride)
+mixedBlock m src stride from r = mixedRow m src (from + r * stride)
 
--- weights of the sum 12, and no tap further than the one below to the right
-pub record Even (below : ℕ) (m : Mix) : Type 0 where
+-- weights of the sum 12, by means or not
+pub record Fair (m : Mix) : Type 0 where
   pub sum : m .wa + m .wb + m .wc + m .wd ≡ 12
-  pub reach : (m .beside ≤ below + 1) × (m .second ≤ below + 1) × (m .other ≤ below + 1)
+  pub means : m .means ≤ 1
+
+-- such weights, of taps the last of which is the one below to the right
+pub record Even (below : ℕ) (m : Mix) : Type 0 where
+  pub fair : Fair m
+  pub reach : m .beside + m .second ≡ below + 1
 
 -- how far a phase goes: 0 not at all, 1 a third of the way, 2 half of it, 3 two thirds
 unfoldable pub way : ℕ → ℕ
@@ -42,24 +52,23 @@ way p = 0x332110 / 2 ^ (4 * p) % 4
 
 -- by the way down: the codes of the mixes, 16 bits each by the way across
 unfoldable pub mixes : List ℕ
-mixes = 0x008400660048000c ∷ 0x3243f04823340408 ∷ 0xe0843333e0480606 ∷ 0x4332f08434230804 ∷ []
+mixes = 0x008400660048000c ∷ 0x3243a24423340408 ∷ 0xc4223333a2440066 ∷ 0x4332c42234230804 ∷ []
 
 -- the code of the mix of two phases
 unfoldable pub mixCode : ℕ → ℕ → ℕ
 mixCode px py = getD mixes (way py) 0 / 2 ^ (16 * way px) % 65536
 
--- the mix that a code says, by its four hexadecimal digits: f is halfway across and e halfway down
-unfoldable pub mixSaid : ℕ → ℕ → Mix
-mixSaid below code =
-    let kind = code / 4096 in
+-- the mix that a code says, by its four hexadecimal digits, the highest of which has 8 more for means; halfway down, the pairs are columns
+unfoldable pub mixSaid : ℕ → ℕ → ℕ → Mix
+mixSaid below py code =
     record {
-      beside = if eqb kind 15 then 1 else if eqb kind 14 then below else 0;
-      second = if eqb kind 15 then below else 1;
-      other = if leb 14 kind then below + 1 else 1;
+      beside = if eqb py 3 then below else 1;
+      second = if eqb py 3 then 1 else below;
+      means = code / 32768;
       wa = code % 16;
       wb = code / 16 % 16;
       wc = code / 256 % 16;
-      wd = if ltb kind 14 then kind else 0;
+      wd = code / 4096 % 8;
     }
 
 -- a function of the four taps at place i
@@ -69,7 +78,7 @@ fourAt f src u v i = f (getD src i 0) (getD src (i + u) 0) (getD src (i + v) 0) 
 -- the mix of two phases
 pub record MixFor (px py below : ℕ) (m : Mix) : Type 0 where
   pub even : Even below m
-  pub is : (src : List ℕ) (i : ℕ) → mixedAt m src below i ≡ fourAt (formula px py) src 1 below i
+  pub is : (src : List ℕ) (i : ℕ) → mixedAt m src i ≡ fourAt (formula px py) src 1 below i
 
 -- at column c of the row that starts at `from`
 unfoldable pub fourRow : (ℕ → ℕ → ℕ → ℕ → ℕ) → List ℕ → ℕ → ℕ → ℕ → ℕ → ℕ

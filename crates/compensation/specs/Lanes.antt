@@ -4,8 +4,7 @@ use mathlib.Core.Path.{_≡_}
 use mathlib.Core.List.{List}
 use Prim.Native.Nat.{ℕ, _+_, _*_, _/_, _%_, _<_}
 use lib.ListN.{getD}
-use Rattle.compensation.specs.Formula.{half}
-use Rattle.compensation.specs.Kernel.{weighed}
+use Rattle.compensation.specs.Kernel.{mixedTaps}
 use Rattle.compensation.specs.declared.kernel.Mix.{Mix}
 
 -- where lane k of a tile of w columns lies, past the place of lane 0, in rows that are `stride` long
@@ -28,8 +27,6 @@ takenAt src stride from r c = getD src (from + r * stride + c) 0
 unfoldable pub Holds : List ℕ → ℕ → ℕ → ℕ → (ℕ → ℕ → ℕ) → Type 0
 Holds t at w h value = (r c : ℕ) → r < h → c < w → tiled t at w r c ≡ value r c
 
--- lane k of six tiles, mixed: one tile for each tap
-unfoldable pub mixedLane : Mix → List ℕ → List ℕ → List ℕ → List ℕ → List ℕ → List ℕ → ℕ → ℕ
-mixedLane m first beside second other below far k =
-    let near = half (getD first k 0) (getD beside k 0) in
-    weighed (m .wa) (m .wb) (m .wc) (m .wd) near (half (getD second k 0) (getD other k 0)) (getD below k 0) (getD far k 0)
+-- lane k of four tiles, mixed: one tile for each tap
+unfoldable pub mixedLane : Mix → List ℕ → List ℕ → List ℕ → List ℕ → ℕ → ℕ
+mixedLane m first beside second last k = mixedTaps m (getD first k 0) (getD beside k 0) (getD second k 0) (getD last k 0)

@@ -1,23 +1,22 @@
 // The sample loops, row by row. The phase is chosen outside them, and every tap lies in the source: no branch and no clamp inside.
 ghost use mathlib.Core.Path.{_≡_};
 ghost use Prim.Native.Nat.{_+_, _*_, _-_, _<_, _≤_};
-ghost use lib.Dec.{ltb};
 ghost use lib.ListN.{length, getD};
 ghost use Rattle.ints.specs.Z.{if_then_else_};
 ghost use Rattle.picture.specs.Painted.{Inside, painted};
 ghost use Rattle.picture.specs.Rows.{row};
-ghost use Rattle.compensation.specs.Formula.{half, formula};
-ghost use Rattle.compensation.specs.Kernel.{weighed, mixedRow, mixedBlock, Even, MixFor, way, mixes, mixCode, fourBlock, extra};
+ghost use Rattle.compensation.specs.Formula.{formula};
+ghost use Rattle.compensation.specs.Kernel.{weighed, raised, mixedTaps, mixedRow, mixedBlock, Fair, Even, MixFor, way, mixes, mixCode, fourBlock, extra};
 ghost use Rattle.compensation.specs.Block.{Span};
 use picture::rows::store_row;
 
-// How a sample is mixed, whatever the phases: four values weighed by weights of the sum 12.
-// The first value is the mean of the sample's first tap and the one `beside` places on, the second that of the taps `second` and `other` places on;
-// the mean of a tap and itself is that tap. The third and the fourth are the tap below the first and its neighbour to the right.
+// How a sample is mixed, whatever the phases: four taps weighed by weights of the sum 12.
+// The taps are two pairs: the sample's first tap with the one `beside` places on, and the two that lie `second` places on from these.
+// With `means` 1 and not 0, the taps of a pair have one weight and stand for their mean.
 pub struct Mix {
     pub beside: usize,
     pub second: usize,
-    pub other: usize,
+    pub means: u8,
     pub wa: u16,
     pub wb: u16,
     pub wc: u16,
@@ -25,32 +24,49 @@ pub struct Mix {
 }
 
 // The sum never passes 3,066.
-pub fn weigh(a: u8, b: u8, c: u8, d: u8, wa: u16, wb: u16, wc: u16, wd: u16) -> u8
+fn weigh(a: u8, b: u8, c: u8, d: u8, wa: u16, wb: u16, wc: u16, wd: u16) -> u8
     requires { ⌜ wa + wb + wc + wd ≡ 12 ⌝ }
     ensures { λ r. ⌜ r ≡ weighed wa wb wc wd a b c d ⌝ }
 {
     ((wa * (a as u16) + wb * (b as u16) + wc * (c as u16) + wd * (d as u16) + 6) / 12) as u8
 }
 
-pub fn halfway(a: u8, b: u8) -> u8
-    ensures { λ r. ⌜ r ≡ half a b ⌝ }
+// With m = 1 two taps that are raised by each other sum up to twice their mean, which is rounded up; with m = 0 they stay as they are.
+fn raise(m: u8, a: u8, b: u8) -> u8
+    requires { ⌜ m ≤ 1 ⌝ }
+    ensures { λ r. ⌜ r ≡ raised m a b ⌝ }
 {
-    (((a as u16) + (b as u16) + 1) / 2) as u8
+    a | (b & m)
 }
 
-fn mix_row(dst: &mut [u8], src: &[u8], to: usize, from: usize, below: usize, n: usize, mix: Mix)
-    requires { ⌜ Even below mix ⌝ }
-    requires { ⌜ (to + n ≤ length (now dst)) × (from + n + below < length (now src)) ⌝ }
-    ensures { λ _. ⌜ now (dst .exit) ≡ row (now (dst .entry)) to (mixedRow mix (now (src .entry)) below from) n ⌝ }
+pub fn mix_taps(mix: Mix, a: u8, b: u8, c: u8, d: u8) -> u8
+    requires { ⌜ Fair mix ⌝ }
+    ensures { λ r. ⌜ r ≡ mixedTaps mix a b c d ⌝ }
+{
+    let m = mix.means;
+    weigh(
+        raise(m, a, b),
+        raise(m, b, a),
+        raise(m, c, d),
+        raise(m, d, c),
+        mix.wa,
+        mix.wb,
+        mix.wc,
+        mix.wd,
+    )
+}
+
+fn mix_row(dst: &mut [u8], src: &[u8], to: usize, from: usize, n: usize, mix: Mix)
+    requires { ⌜ Fair mix × (to + n ≤ length (now dst)) × (from + n + (mix .beside + mix .second) ≤ length (now src)) ⌝ }
+    ensures { λ _. ⌜ now (dst .exit) ≡ row (now (dst .entry)) to (mixedRow mix (now (src .entry)) from) n ⌝ }
 {
     let mut c = 0;
     while c < n {
         let i = from + c;
-        let first = halfway(src[i], src[i + mix.beside]);
-        let second = halfway(src[i + mix.second], src[i + mix.other]);
-        let third = src[i + below];
-        let fourth = src[i + below + 1];
-        dst[to + c] = weigh(first, second, third, fourth, mix.wa, mix.wb, mix.wc, mix.wd);
+        let beside = src[i + mix.beside];
+        let second = src[i + mix.second];
+        let last = src[i + (mix.beside + mix.second)];
+        dst[to + c] = mix_taps(mix, src[i], beside, second, last);
         c += 1;
     }
 }
@@ -75,15 +91,7 @@ pub fn mix_block(
 {
     let mut r = 0;
     while r < h {
-        mix_row(
-            dst,
-            src,
-            (dy + r) * dstride + dx,
-            from + r * stride,
-            stride,
-            w,
-            mix,
-        );
+        mix_row(dst, src, (dy + r) * dstride + dx, from + r * stride, w, mix);
         r += 1;
     }
 }
@@ -97,7 +105,7 @@ fn way_of(p: u32) -> u32
 }
 
 // The mixes of a way down, by the way across, the lowest first. A mix has four hexadecimal digits: the weights of the four taps, the first
-// tap's the lowest; or, below e for halfway down and below f for halfway across, the weights of the two means.
+// tap's the lowest; the highest has 8 more where the pairs stand for their means.
 // A look-up, since phases are too many for a processor to foresee them.
 fn mixes_of(down: u32) -> u64
     requires { ⌜ down < 4 ⌝ }
@@ -105,9 +113,9 @@ fn mixes_of(down: u32) -> u64
 {
     match down {
         0 => 0x0084_0066_0048_000c,
-        1 => 0x3243_f048_2334_0408,
-        2 => 0xe084_3333_e048_0606,
-        _ => 0x4332_f084_3423_0804,
+        1 => 0x3243_a244_2334_0408,
+        2 => 0xc422_3333_a244_0066,
+        _ => 0x4332_c422_3423_0804,
     }
 }
 
@@ -126,29 +134,22 @@ fn pick(t: bool, a: usize, b: usize) -> usize
     if t { a } else { b }
 }
 
-// The first digit of a code as a weight: e and f are none.
-fn last_weight(kind: u32) -> u16
-    ensures { λ r. ⌜ r ≡ (if ltb kind 14 then kind else 0) ⌝ }
-{
-    if kind < 14 { kind as u16 } else { 0 }
-}
-
-// The mix of two phases, for a source whose rows are `below` samples long.
+// The mix of two phases, for a source whose rows are `below` samples long. Halfway down, a pair is a tap and the one below it; else it is two
+// taps of a row.
 pub fn mix_of(px: u32, py: u32, below: usize) -> Mix
-    requires { ⌜ (px < 6) × (py < 6) × (below < 0x8000000000000000) ⌝ }
+    requires { ⌜ (px < 6) × (py < 6) ⌝ }
     ensures { λ r. ⌜ MixFor px py below r ⌝ }
 {
     let code = mix_code(px, py);
-    let kind = code / 4096;
-    let across = kind == 15;
+    let down = py == 3;
     Mix {
-        beside: pick(across, 1, pick(kind == 14, below, 0)),
-        second: pick(across, below, 1),
-        other: pick(14 <= kind, below + 1, 1),
+        beside: pick(down, below, 1),
+        second: pick(down, 1, below),
+        means: (code / 32768) as u8,
         wa: (code % 16) as u16,
         wb: (code / 16 % 16) as u16,
         wc: (code / 256 % 16) as u16,
-        wd: last_weight(kind),
+        wd: (code / 4096 % 8) as u16,
     }
 }
 

@@ -7,16 +7,15 @@ ghost use lib.ListN.{length, replicate};
 ghost use Rattle.picture.specs.Painted.{Inside, painted};
 ghost use Rattle.picture.specs.Rows.{row};
 ghost use Rattle.compensation.specs.Formula.{formula};
-ghost use Rattle.compensation.specs.Kernel.{Even, mixedBlock, fourBlock, extra};
+ghost use Rattle.compensation.specs.Kernel.{Fair, Even, mixedBlock, fourBlock, extra};
 ghost use Rattle.compensation.specs.Lanes.{laneAt, tiled, takenAt, Holds, mixedLane};
 ghost use Rattle.compensation.specs.Block.{Span};
 use crate::kernel::Mix;
 use crate::kernel::copy_by_width;
 use crate::kernel::extra_of;
-use crate::kernel::halfway;
 use crate::kernel::mix_block;
 use crate::kernel::mix_of;
-use crate::kernel::weigh;
+use crate::kernel::mix_taps;
 
 // w × h samples of `src`, row after row, into the lanes from `at` on.
 fn load_lanes(
@@ -69,36 +68,32 @@ fn load_tile(src: &[u8], from: usize, stride: usize, w: usize, h: usize) -> [u8;
     t
 }
 
-// The same places of two planes: the second's from lane 8 on.
+// The same places of two planes: the second's lanes follow the first's.
 fn load_both(cb: &[u8], cr: &[u8], from: usize, stride: usize, w: usize, h: usize) -> [u8; 16]
     requires { ⌜ (0 < w) × (w * h ≤ 8) × (from + h * stride + w ≤ length (now cb) + stride) × (from + h * stride + w ≤ length (now cr) + stride) ⌝ }
-    ensures { λ r. ⌜ Holds r 0 w h (takenAt (now (cb .entry)) stride from) × Holds r 8 w h (takenAt (now (cr .entry)) stride from) ⌝ }
+    ensures { λ r. ⌜ Holds r 0 w h (takenAt (now (cb .entry)) stride from) × Holds r (w * h) w h (takenAt (now (cr .entry)) stride from) ⌝ }
 {
     let mut t = [0u8; 16];
     load_lanes(&mut t, cb, 0, from, stride, w, h);
-    load_lanes(&mut t, cr, 8, from, stride, w, h);
+    load_lanes(&mut t, cr, w * h, from, stride, w, h);
     t
 }
 
-// Sixteen samples by the six taps that a mix names.
+// Sixteen samples by the four taps of a mix.
 fn mix_lanes(
     first: [u8; 16],
     beside: [u8; 16],
     second: [u8; 16],
-    other: [u8; 16],
-    below: [u8; 16],
-    far: [u8; 16],
+    last: [u8; 16],
     mix: Mix,
 ) -> [u8; 16]
-    requires { ⌜ mix .wa + mix .wb + mix .wc + mix .wd ≡ 12 ⌝ }
-    ensures { λ r. ⌜ r ≡ row (replicate 16 0) 0 (mixedLane mix first beside second other below far) 16 ⌝ }
+    requires { ⌜ Fair mix ⌝ }
+    ensures { λ r. ⌜ r ≡ row (replicate 16 0) 0 (mixedLane mix first beside second last) 16 ⌝ }
 {
     let mut t = [0u8; 16];
     let mut k = 0;
     while k < 16 {
-        let a = halfway(first[k], beside[k]);
-        let b = halfway(second[k], other[k]);
-        t[k] = weigh(a, b, below[k], far[k], mix.wa, mix.wb, mix.wc, mix.wd);
+        t[k] = mix_taps(mix, first[k], beside[k], second[k], last[k]);
         k += 1;
     }
     t
@@ -111,10 +106,8 @@ fn tile_16x1(src: &[u8], from: usize, stride: usize, mix: Mix) -> [u8; 16]
     let first = load_tile(src, from, stride, 16, 1);
     let beside = load_tile(src, from + mix.beside, stride, 16, 1);
     let second = load_tile(src, from + mix.second, stride, 16, 1);
-    let other = load_tile(src, from + mix.other, stride, 16, 1);
-    let below = load_tile(src, from + stride, stride, 16, 1);
-    let far = load_tile(src, from + stride + 1, stride, 16, 1);
-    mix_lanes(first, beside, second, other, below, far, mix)
+    let last = load_tile(src, from + (mix.beside + mix.second), stride, 16, 1);
+    mix_lanes(first, beside, second, last, mix)
 }
 
 fn mix_16x1(
@@ -148,10 +141,8 @@ fn tile_8x2(src: &[u8], from: usize, stride: usize, mix: Mix) -> [u8; 16]
     let first = load_tile(src, from, stride, 8, 2);
     let beside = load_tile(src, from + mix.beside, stride, 8, 2);
     let second = load_tile(src, from + mix.second, stride, 8, 2);
-    let other = load_tile(src, from + mix.other, stride, 8, 2);
-    let below = load_tile(src, from + stride, stride, 8, 2);
-    let far = load_tile(src, from + stride + 1, stride, 8, 2);
-    mix_lanes(first, beside, second, other, below, far, mix)
+    let last = load_tile(src, from + (mix.beside + mix.second), stride, 8, 2);
+    mix_lanes(first, beside, second, last, mix)
 }
 
 fn mix_8x2(
@@ -185,10 +176,8 @@ fn tile_4x4(src: &[u8], from: usize, stride: usize, mix: Mix) -> [u8; 16]
     let first = load_tile(src, from, stride, 4, 4);
     let beside = load_tile(src, from + mix.beside, stride, 4, 4);
     let second = load_tile(src, from + mix.second, stride, 4, 4);
-    let other = load_tile(src, from + mix.other, stride, 4, 4);
-    let below = load_tile(src, from + stride, stride, 4, 4);
-    let far = load_tile(src, from + stride + 1, stride, 4, 4);
-    mix_lanes(first, beside, second, other, below, far, mix)
+    let last = load_tile(src, from + (mix.beside + mix.second), stride, 4, 4);
+    mix_lanes(first, beside, second, last, mix)
 }
 
 fn mix_4x4(
@@ -222,10 +211,8 @@ fn both_8x1(rcb: &[u8], rcr: &[u8], from: usize, stride: usize, mix: Mix) -> [u8
     let first = load_both(rcb, rcr, from, stride, 8, 1);
     let beside = load_both(rcb, rcr, from + mix.beside, stride, 8, 1);
     let second = load_both(rcb, rcr, from + mix.second, stride, 8, 1);
-    let other = load_both(rcb, rcr, from + mix.other, stride, 8, 1);
-    let below = load_both(rcb, rcr, from + stride, stride, 8, 1);
-    let far = load_both(rcb, rcr, from + stride + 1, stride, 8, 1);
-    mix_lanes(first, beside, second, other, below, far, mix)
+    let last = load_both(rcb, rcr, from + (mix.beside + mix.second), stride, 8, 1);
+    mix_lanes(first, beside, second, last, mix)
 }
 
 fn pair_8x1(
@@ -262,10 +249,8 @@ fn both_4x2(rcb: &[u8], rcr: &[u8], from: usize, stride: usize, mix: Mix) -> [u8
     let first = load_both(rcb, rcr, from, stride, 4, 2);
     let beside = load_both(rcb, rcr, from + mix.beside, stride, 4, 2);
     let second = load_both(rcb, rcr, from + mix.second, stride, 4, 2);
-    let other = load_both(rcb, rcr, from + mix.other, stride, 4, 2);
-    let below = load_both(rcb, rcr, from + stride, stride, 4, 2);
-    let far = load_both(rcb, rcr, from + stride + 1, stride, 4, 2);
-    mix_lanes(first, beside, second, other, below, far, mix)
+    let last = load_both(rcb, rcr, from + (mix.beside + mix.second), stride, 4, 2);
+    mix_lanes(first, beside, second, last, mix)
 }
 
 fn pair_4x2(
@@ -297,15 +282,13 @@ fn pair_4x2(
 
 fn both_2x2(rcb: &[u8], rcr: &[u8], from: usize, stride: usize, mix: Mix) -> [u8; 16]
     requires { ⌜ Even stride mix × (from + 2 * stride + 2 < length (now rcb)) × (from + 2 * stride + 2 < length (now rcr)) ⌝ }
-    ensures { λ r. ⌜ Holds r 0 2 2 (mixedBlock mix (now (rcb .entry)) stride from) × Holds r 8 2 2 (mixedBlock mix (now (rcr .entry)) stride from) ⌝ }
+    ensures { λ r. ⌜ Holds r 0 2 2 (mixedBlock mix (now (rcb .entry)) stride from) × Holds r 4 2 2 (mixedBlock mix (now (rcr .entry)) stride from) ⌝ }
 {
     let first = load_both(rcb, rcr, from, stride, 2, 2);
     let beside = load_both(rcb, rcr, from + mix.beside, stride, 2, 2);
     let second = load_both(rcb, rcr, from + mix.second, stride, 2, 2);
-    let other = load_both(rcb, rcr, from + mix.other, stride, 2, 2);
-    let below = load_both(rcb, rcr, from + stride, stride, 2, 2);
-    let far = load_both(rcb, rcr, from + stride + 1, stride, 2, 2);
-    mix_lanes(first, beside, second, other, below, far, mix)
+    let last = load_both(rcb, rcr, from + (mix.beside + mix.second), stride, 2, 2);
+    mix_lanes(first, beside, second, last, mix)
 }
 
 fn pair_2x2(
@@ -330,7 +313,7 @@ fn pair_2x2(
     while r < h {
         let t = both_2x2(rcb, rcr, from + r * stride, stride, mix);
         store_lanes(cb, stride, dx, dy + r, 2, 2, t, 0);
-        store_lanes(cr, stride, dx, dy + r, 2, 2, t, 8);
+        store_lanes(cr, stride, dx, dy + r, 2, 2, t, 4);
         r += 2;
     }
 }

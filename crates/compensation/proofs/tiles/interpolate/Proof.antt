@@ -10,18 +10,18 @@ use Rattle.compensation.proofs.Taps.{extra-zero, mixed-room}
 use Rattle.compensation.proofs.tiles.interpolate.Statement.{statement}
 use Rattle.compensation.proofs.tiles.interpolate.Tie as tie
 
-room : (c : tie.Else1) → let a = c .before .before .before .before .args in (a .from + a .h * a .stride + a .w < length (a .src .now)) × (a .stride < length (a .src .now))
+room : (c : tie.Else1) → let a = c .before .before .before .before .args in a .from + a .h * a .stride + a .w < length (a .src .now)
 room c =
     let s = c .before .before .before .before in
     let a = s .args in
     let one : extra (a .px) (a .py) ≡ 1 = omega (arith, c .before .extra-of .ensures) in
-    mixed-room (a .px) (a .py) (a .stride) (a .from) (length (a .src .now)) (s .pre .0) one (s .pre .4)
+    mixed-room (a .px) (a .py) (a .stride) (a .from) (length (a .src .now)) (s .pre .0) one (s .pre .4) .0
 
 mix-of-requires : tie.Need-mix-of-requires
-mix-of-requires c κs = let s = c .before .before .before .before in (s .pre .2, s .pre .3, omega (arith, room c))
+mix-of-requires c κs = let s = c .before .before .before .before in (s .pre .2, s .pre .3)
 
 mix-one-requires : tie.Need-mix-one-requires
-mix-one-requires c κs = (c .before .mix-of .ensures .even, (c .before .before .before .before .before .before .pre .1, room (c .before .before) .0))
+mix-one-requires c κs = (c .before .mix-of .ensures .even, (c .before .before .before .before .before .before .pre .1, room (c .before .before)))
 
 returns : tie.Need-returns
 returns c =

@@ -13,19 +13,19 @@ use Rattle.compensation.proofs.tiles.interpolate_pair.Tie as tie
 one : (c : tie.Else1) → let a = c .before .before .before .before .before .before .args in extra (a .px) (a .py) ≡ 1
 one c = omega (arith, c .before .extra-of .ensures, c .if1 .left)
 
-cb-room : (c : tie.Else1) → let a = c .before .before .before .before .before .before .args in (a .from + a .h * a .stride + a .w < length (a .rcb .now)) × (a .stride < length (a .rcb .now))
-cb-room c = let s = c .before .before .before .before .before .before in let a = s .args in mixed-room (a .px) (a .py) (a .stride) (a .from) (length (a .rcb .now)) (s .pre .0 .0) (one c) (s .pre .1 .0)
+cb-room : (c : tie.Else1) → let a = c .before .before .before .before .before .before .args in a .from + a .h * a .stride + a .w < length (a .rcb .now)
+cb-room c = let s = c .before .before .before .before .before .before in let a = s .args in mixed-room (a .px) (a .py) (a .stride) (a .from) (length (a .rcb .now)) (s .pre .0 .0) (one c) (s .pre .1 .0) .0
 
-cr-room : (c : tie.Else1) → let a = c .before .before .before .before .before .before .args in (a .from + a .h * a .stride + a .w < length (a .rcr .now)) × (a .stride < length (a .rcr .now))
-cr-room c = let s = c .before .before .before .before .before .before in let a = s .args in mixed-room (a .px) (a .py) (a .stride) (a .from) (length (a .rcr .now)) (s .pre .0 .0) (one c) (s .pre .1 .1)
+cr-room : (c : tie.Else1) → let a = c .before .before .before .before .before .before .args in a .from + a .h * a .stride + a .w < length (a .rcr .now)
+cr-room c = let s = c .before .before .before .before .before .before in let a = s .args in mixed-room (a .px) (a .py) (a .stride) (a .from) (length (a .rcr .now)) (s .pre .0 .0) (one c) (s .pre .1 .1) .0
 
 mix-of-requires : tie.Need-mix-of-requires
-mix-of-requires c κs = let s = c .before .before .before .before .before .before in (s .pre .0 .3, s .pre .0 .4, omega (arith, cb-room c .1, s .good))
+mix-of-requires c κs = let s = c .before .before .before .before .before .before in (s .pre .0 .3, s .pre .0 .4)
 
 mix-pair-requires : tie.Need-mix-pair-requires
 mix-pair-requires c κs =
     let s = c .before .before .before .before .before .before .before .before .before in
-    (c .before .before .mix-of .ensures .even, ((s .pre .0 .1, s .pre .0 .2), (cb-room (c .before .before .before) .0, cr-room (c .before .before .before) .0)))
+    (c .before .before .mix-of .ensures .even, ((s .pre .0 .1, s .pre .0 .2), (cb-room (c .before .before .before), cr-room (c .before .before .before))))
 
 returns : tie.Need-returns
 returns c =

@@ -1,22 +1,20 @@
 -- `compensation::tiles::mix_lanes` meets its contract: one lane a turn.
-use mathlib.Core.Path.{_≡_, refl, _∙_}
+use mathlib.Core.Path.{_≡_, refl}
 use Prim.Native.Nat.{_≤_, _-_}
 use native.Mathlib.Nat.{zero-add}
 use native.Mathlib.Omega.{arith}
-use lib.ListN.{getD, replicate}
-use borrow.Author.Needs.{needs}
+use lib.ListN.{replicate}
 use Rattle.picture.specs.Rows.{row}
 use Rattle.picture.proofs.Laws.{row-more}
-use Rattle.compensation.specs.Kernel.{weighed}
 use Rattle.compensation.specs.Lanes.{mixedLane}
 use Rattle.compensation.proofs.tiles.mix_lanes.Statement.{statement}
 use Rattle.compensation.proofs.tiles.mix_lanes.Tie as tie
 
 abbrev Inv-loop : tie.InvT-loop
-Inv-loop mix first beside second other below far t₀ k₀ t k = (k ≤ 16) × (t ≡ row (replicate 16 0) 0 (mixedLane mix first beside second other below far) k)
+Inv-loop mix first beside second last t₀ k₀ t k = (k ≤ 16) × (t ≡ row (replicate 16 0) 0 (mixedLane mix first beside second last) k)
 
 abbrev μ-loop : tie.MeasureT-loop
-μ-loop mix first beside second other below far t₀ k₀ t k = 16 - k
+μ-loop mix first beside second last t₀ k₀ t k = 16 - k
 
 loop-holds : tie.Need-loop-holds Inv-loop μ-loop
 unfolding row
@@ -25,14 +23,9 @@ loop-holds c = (omega arith, refl)
 loop-again : tie.Need-loop-again Inv-loop μ-loop
 unfolding mixedLane
 loop-again c =
-    let a = c .before .before .before .before .before .args in
-    let m = a .mix in
-    let l = c .before .before .before .before .loop in
-    let k = l .k in
-    let p = c .before .before .halfway .ensures in
-    let q = c .before .halfway2 .ensures in
-    let v = c .weigh .ensures ∙ (λ i. weighed (m .wa) (m .wb) (m .wc) (m .wd) (p i) (q i) (getD (a .t5) k 0) (getD (a .t6) k 0)) in
-    (omega arith, rw zero-add at (row-more (replicate 16 0) 0 (mixedLane m (a .t1) (a .t2) (a .t3) (a .t4) (a .t5) (a .t6)) k (l .inv .1) v))
+    let a = c .before .before .before .args in
+    let l = c .before .before .loop in
+    (omega arith, rw zero-add at (row-more (replicate 16 0) 0 (mixedLane (a .mix) (a .t1) (a .t2) (a .t3) (a .t4)) (l .k) (l .inv .1) (c .mix-taps .ensures)))
 
 returns : tie.Need-returns Inv-loop μ-loop
 returns c =
@@ -48,13 +41,9 @@ mix-lanes-spec =
     loop-holds
     (λ c. omega arith)
     (λ c. omega arith)
-    (λ c κs. search needs)
     (λ c. omega arith)
     (λ c. omega arith)
-    (λ c κs. search needs)
-    (λ c. omega arith)
-    (λ c. omega arith)
-    (λ c κs. search needs)
+    (λ c κs. c .before .before .pre)
     (λ c. omega arith)
     (λ c. omega arith)
     (λ c. omega arith)

@@ -42,7 +42,7 @@ loop-again c =
       omega (arith, l .inv .2, c .before .before .before .before .before .before .store-lanes .kept .0),
       omega (arith, l .inv .3, c .before .before .store-lanes2 .kept .0),
       tile-more (a .cb .now) (t .result) (a .stride) (a .dx) (a .dy) (a .mix) (a .rcb .now) (a .stride) (a .from) 0 2 2 (l .r) (l .inv .4) (t .ensures .0) (c .before .before .before .before .before .before .store-lanes .ensures) (cb-lies (c .before .before .before .before .before .before .before .before .before) .2),
-      tile-more (a .cr .now) (t .result) (a .stride) (a .dx) (a .dy) (a .mix) (a .rcr .now) (a .stride) (a .from) 8 2 2 (l .r) (l .inv .5) (t .ensures .1) (c .before .before .store-lanes2 .ensures) (cr-lies (c .before .before .before .before .before .before .before .before .before) .2),
+      tile-more (a .cr .now) (t .result) (a .stride) (a .dx) (a .dy) (a .mix) (a .rcr .now) (a .stride) (a .from) 4 2 2 (l .r) (l .inv .5) (t .ensures .1) (c .before .before .store-lanes2 .ensures) (cr-lies (c .before .before .before .before .before .before .before .before .before) .2),
     )
 
 returns : tie.Need-returns Inv-loop μ-loop

@@ -7,8 +7,8 @@ use Rattle.compensation.proofs.tiles.tile_16x1.Tie as tie
 
 returns : tie.Need-returns
 returns c =
-    let a = c .before .before .before .before .before .before .before .before .before .before .before .args in
-    mixed-tile (a .mix) (a .src .now) (a .stride) (a .from) 0 16 1 (omega arith) _ _ _ _ _ _ (c .mix-lanes .ensures) (c .before .before .before .before .before .before .before .before .before .load-tile .ensures) (c .before .before .before .before .before .before .before .load-tile2 .ensures) (c .before .before .before .before .before .load-tile3 .ensures) (c .before .before .before .load-tile4 .ensures) (c .before .before .load-tile5 .ensures) (c .before .load-tile6 .ensures)
+    let a = c .before .before .before .before .before .before .before .before .before .args in
+    mixed-tile (a .mix) (a .src .now) (a .stride) (a .from) 0 16 1 (omega arith) _ _ _ _ (c .mix-lanes .ensures) (c .before .before .before .before .before .before .before .load-tile .ensures) (c .before .before .before .before .before .load-tile2 .ensures) (c .before .before .before .load-tile3 .ensures) (c .before .load-tile4 .ensures)
 
 pub tile-16x1-spec : {M : Type 1} → statement M
 tile-16x1-spec =
@@ -20,11 +20,7 @@ tile-16x1-spec =
     (λ c. search needs)
     (λ c κs. search needs)
     (λ c. search needs)
-    (λ c κs. search needs)
     (λ c. search needs)
     (λ c κs. search needs)
-    (λ c. search needs)
-    (λ c. search needs)
-    (λ c κs. search needs)
-    (λ c κs. c .before .before .before .before .before .before .before .before .before .before .pre .0 .sum)
+    (λ c κs. c .before .before .before .before .before .before .before .before .pre .0 .fair)
     returns)
