@@ -100,6 +100,11 @@ module _ (m : Mix) (src : List ℕ) (stride from at w h : ℕ) (room : at + w * 
       let pd = hd r k lr lk ∙ on (m .beside + m .second) in
       lane ∙ (λ j. mixedTaps m (pa j) (pb j) (pc j) (pd j))
 
+-- ---- a block that is one tile
+pub tile-whole : {l′ : List ℕ} (l t : List ℕ) (s x y at w h : ℕ) (value : ℕ → ℕ → ℕ) → Holds t at w h value → l′ ≡ painted s x y w h (tiled t at w) l → l′ ≡ painted s x y w h value l
+unfolding Holds
+tile-whole l t s x y at w h value holds stored = stored ∙ painted-values s x y w h (tiled t at w) value l holds
+
 -- ---- blocks one below the other
 inside-rows : {s x y w h size : ℕ} (r t : ℕ) → Inside s x y w h size → r + t ≤ h → Inside s x (y + r) w t size
 inside-rows {s} {x} {y} {w} {h} r t i le =

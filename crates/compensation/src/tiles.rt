@@ -1,6 +1,6 @@
 // Blocks of the usual widths, whose taps lie in the source: up to sixteen samples at once, as a tile.
 // Tiles have literal sizes, their loops run over lanes, and all loads come before the stores: so the compiler unrolls the loops and mixes all lanes at once.
-// Each `tile_` and `both_` function is called at one place: so the compiler makes it part of the loop there.
+// Each `tile_` and `both_` function is called at one place: so the compiler makes it part of its caller.
 ghost use mathlib.Core.Path.{_≡_};
 ghost use Prim.Native.Nat.{_+_, _*_, _-_, _%_, _<_, _≤_};
 ghost use lib.ListN.{length, replicate};
@@ -299,23 +299,51 @@ fn pair_2x2(
     stride: usize,
     dx: usize,
     dy: usize,
-    h: usize,
     from: usize,
     mix: Mix,
 )
-    requires { ⌜ Even stride mix × (h % 2 ≡ 0) ⌝ }
-    requires { ⌜ Inside stride dx dy 2 h (length (now cb)) × Inside stride dx dy 2 h (length (now cr)) ⌝ }
-    requires { ⌜ (from + h * stride + 2 < length (now rcb)) × (from + h * stride + 2 < length (now rcr)) ⌝ }
-    ensures { λ _. ⌜ now (cb .exit) ≡ painted stride dx dy 2 h (mixedBlock mix (now (rcb .entry)) stride from) (now (cb .entry)) ⌝ }
-    ensures { λ _. ⌜ now (cr .exit) ≡ painted stride dx dy 2 h (mixedBlock mix (now (rcr .entry)) stride from) (now (cr .entry)) ⌝ }
+    requires { ⌜ Even stride mix ⌝ }
+    requires { ⌜ Inside stride dx dy 2 2 (length (now cb)) × Inside stride dx dy 2 2 (length (now cr)) ⌝ }
+    requires { ⌜ (from + 2 * stride + 2 < length (now rcb)) × (from + 2 * stride + 2 < length (now rcr)) ⌝ }
+    ensures { λ _. ⌜ now (cb .exit) ≡ painted stride dx dy 2 2 (mixedBlock mix (now (rcb .entry)) stride from) (now (cb .entry)) ⌝ }
+    ensures { λ _. ⌜ now (cr .exit) ≡ painted stride dx dy 2 2 (mixedBlock mix (now (rcr .entry)) stride from) (now (cr .entry)) ⌝ }
 {
-    let mut r = 0;
-    while r < h {
-        let t = both_2x2(rcb, rcr, from + r * stride, stride, mix);
-        store_lanes(cb, stride, dx, dy + r, 2, 2, t, 0);
-        store_lanes(cr, stride, dx, dy + r, 2, 2, t, 4);
-        r += 2;
-    }
+    let t = both_2x2(rcb, rcr, from, stride, mix);
+    store_lanes(cb, stride, dx, dy, 2, 2, t, 0);
+    store_lanes(cr, stride, dx, dy, 2, 2, t, 4);
+}
+
+fn both_2x4(rcb: &[u8], rcr: &[u8], from: usize, stride: usize, mix: Mix) -> [u8; 16]
+    requires { ⌜ Even stride mix × (from + 4 * stride + 2 < length (now rcb)) × (from + 4 * stride + 2 < length (now rcr)) ⌝ }
+    ensures { λ r. ⌜ Holds r 0 2 4 (mixedBlock mix (now (rcb .entry)) stride from) × Holds r 8 2 4 (mixedBlock mix (now (rcr .entry)) stride from) ⌝ }
+{
+    let first = load_both(rcb, rcr, from, stride, 2, 4);
+    let beside = load_both(rcb, rcr, from + mix.beside, stride, 2, 4);
+    let second = load_both(rcb, rcr, from + mix.second, stride, 2, 4);
+    let last = load_both(rcb, rcr, from + (mix.beside + mix.second), stride, 2, 4);
+    mix_lanes(first, beside, second, last, mix)
+}
+
+fn pair_2x4(
+    cb: &mut [u8],
+    cr: &mut [u8],
+    rcb: &[u8],
+    rcr: &[u8],
+    stride: usize,
+    dx: usize,
+    dy: usize,
+    from: usize,
+    mix: Mix,
+)
+    requires { ⌜ Even stride mix ⌝ }
+    requires { ⌜ Inside stride dx dy 2 4 (length (now cb)) × Inside stride dx dy 2 4 (length (now cr)) ⌝ }
+    requires { ⌜ (from + 4 * stride + 2 < length (now rcb)) × (from + 4 * stride + 2 < length (now rcr)) ⌝ }
+    ensures { λ _. ⌜ now (cb .exit) ≡ painted stride dx dy 2 4 (mixedBlock mix (now (rcb .entry)) stride from) (now (cb .entry)) ⌝ }
+    ensures { λ _. ⌜ now (cr .exit) ≡ painted stride dx dy 2 4 (mixedBlock mix (now (rcr .entry)) stride from) (now (cr .entry)) ⌝ }
+{
+    let t = both_2x4(rcb, rcr, from, stride, mix);
+    store_lanes(cb, stride, dx, dy, 2, 4, t, 0);
+    store_lanes(cr, stride, dx, dy, 2, 4, t, 8);
 }
 
 // A block by tiles, where its width and height allow it: as `mix_block` answers it.
@@ -367,8 +395,10 @@ fn mix_pair(
     ensures { λ _. ⌜ now (cb .exit) ≡ painted stride dx dy w h (mixedBlock mix (now (rcb .entry)) stride from) (now (cb .entry)) ⌝ }
     ensures { λ _. ⌜ now (cr .exit) ≡ painted stride dx dy w h (mixedBlock mix (now (rcr .entry)) stride from) (now (cr .entry)) ⌝ }
 {
-    if (w == 2) & (h % 2 == 0) {
-        pair_2x2(cb, cr, rcb, rcr, stride, dx, dy, h, from, mix);
+    if (w == 2) & (h == 2) {
+        pair_2x2(cb, cr, rcb, rcr, stride, dx, dy, from, mix);
+    } else if (w == 2) & (h == 4) {
+        pair_2x4(cb, cr, rcb, rcr, stride, dx, dy, from, mix);
     } else if (w == 4) & (h % 2 == 0) {
         pair_4x2(cb, cr, rcb, rcr, stride, dx, dy, h, from, mix);
     } else if w == 8 {
