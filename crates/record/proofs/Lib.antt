@@ -10,4 +10,5 @@ pub mod Lengths
 pub mod Answers
 pub mod Walks
 pub mod Sides
+pub mod Left
 pub mod Examples

@@ -13,24 +13,20 @@ use lib.ListN.{take, drop}
 use lib.Seq.{sets, drop-drop}
 use Rattle.ints.specs.Z.{if_then_else_}
 use Rattle.refusal.specs.Got.{Got, got, refused, after, andThen, mapGot}
-use Rattle.refusal.specs.declared.Refusal.{Refusal}
 use Rattle.residual.specs.Book.{positions}
-use Rattle.residual.specs.Levels.{block, Decoded}
+use Rattle.residual.specs.Levels.{block}
 use Rattle.residual.specs.Pattern.{classOf, quadrantCoded}
 use Rattle.residual.specs.declared.svq3_coeff.ResidualBook.{ResidualBook}
 use Rattle.residual.specs.declared.svq3_coeff.ResidualBook.the-variants.{NormalScan, ChromaDc}
-use Rattle.residual.specs.declared.svq3_coeff.ListAnswer.{ListAnswer}
-use Rattle.residual.specs.declared.svq3_coeff.ListAnswer.the-variants.{End, Refused}
 use Rattle.residual.proofs.Gots.{after-zero, after-after}
 use Rattle.record.specs.Items.{itemCoded, itemBook, itemStart, itemCount, itemPlace, itemLevels, readLists, writeLists, readItem, readItems}
 use Rattle.record.specs.Write.{signedNumbers, itemBytes, itemsBytes}
-use Rattle.record.specs.Answers.{Left}
 use Rattle.record.specs.Sides.{readSide, sideBytes}
 use Rattle.record.proofs.Turns.{when-true, when-false}
 use Rattle.record.proofs.Sets.{drop-of-take}
 use Rattle.record.proofs.ListKinds.{is-luma, is-dc, is-ac, luma-group, dc-group, ac-group}
 use Rattle.record.proofs.Lists.{next-place}
-use Rattle.record.proofs.Walks.{stored, Rest, rest-is, rest-on, rest-stops, rest-none, then-mapped, one-coded, one-passed}
+use Rattle.record.proofs.Walks.{one-coded, one-passed}
 
 -- ---- in parts: n lists, then m
 module _ {E : Type 0} where
@@ -103,7 +99,7 @@ ac-side = record {
 
 module _ (pattern : ℕ) where
   -- each list from i on and before e is coded, or none
-  abbrev Coded : ℕ → ℕ → Bool → Type 0
+  abbrev pub Coded : ℕ → ℕ → Bool → Type 0
   Coded i e t = (j : ℕ) → i ≤ j → j < e → itemCoded pattern j ≡ t
 
   none-read : {E : Type 0} (read : ℕ → List E → Got (List ℤ)) (n i : ℕ) → Coded i (i + n) false → (ls : List ℤ) (s : List E) → readLists read n i pattern ls s ≡ got ls 0
@@ -120,10 +116,10 @@ module _ (pattern : ℕ) where
 
 module _ (book : ResidualBook) (start pattern : ℕ) where
   -- each is of this kind
-  abbrev Kind : ℕ → ℕ → Type 0
+  abbrev pub Kind : ℕ → ℕ → Type 0
   Kind i e = (j : ℕ) → i ≤ j → j < e → (itemBook j ≡ book) × (itemStart j ≡ start)
 
-  next-side : (i e place : ℕ) → i < e → e ≤ 26 → Kind i e → place ≡ itemPlace i → place + positions book ≡ itemPlace (suc i)
+  pub next-side : (i e place : ℕ) → i < e → e ≤ 26 → Kind i e → place ≡ itemPlace i → place + positions book ≡ itemPlace (suc i)
   unfolding itemCount
   next-side i e place h m k p = rw (p, ← k i (omega arith) h .0) (sym (next-place i (omega arith)))
 
@@ -167,41 +163,6 @@ module _ {book : ResidualBook} {start n i : ℕ} (d : Side book start n i) (patt
   unfolding itemsBytes
   side-unwritten t = none-written pattern itemBytes n i (λ j a b. d .same pattern j a b ∙ t)
 
--- ---- read one after another
-module _ (book : ResidualBook) (start : ℕ) where
-  one-list : (n place : ℕ) (ls : List ℤ) (s : List Bool) → readSide book start (suc n) place ls s ≡ andThen (mapGot (sets ls place) (block book start s)) s (readSide book start n (place + positions book))
-  unfolding readSide
-  one-list n place ls s = then-mapped (sets ls place) (block book start s) s (readSide book start n (place + positions book))
-
-  -- the last one
-  pub last-list : {room : ℕ} (p place : ℕ) (ls : List ℤ) (s : List Bool) (answer : ListAnswer) (left : List ℤ) → Decoded p room (block book start s) ls place answer left → Left p (readSide book start 1 place ls s) answer left
-  unfolding readSide
-  last-list p place ls s answer left d = rw (one-list 0 place ls s, alone (mapGot (sets ls place) (block book start s))) (stored p _ (block book start s) ls place answer left d)
-    where
-      alone : (g : Got (List ℤ)) → andThen g s (readSide book start 0 (place + positions book)) ≡ g
-      alone (got xs n) = ap (got xs) (add-zero n)
-      alone (refused r) = refl
-
-  module _ {whole : Got (List ℤ)} {at p : ℕ} (place count i : ℕ) (ls : List ℤ) (s : List Bool) (size : ℕ) (e : size ≡ positions book) (h : i < count) (g : Rest whole at p (readSide book start (count - i) (place + size * i) ls (drop p s))) where
-    next-list : Rest whole at p (andThen (mapGot (sets ls (place + size * i)) (block book start (drop p s))) (drop p s) (readSide book start (count - (i + 1)) (place + size * (i + 1))))
-    next-list =
-        let n : count - i ≡ suc (count - (i + 1)) = omega arith in
-        let on : place + size * i + size ≡ place + size * (i + 1) = omega arith in
-        rest-is (ap (λ (k : ℕ). readSide book start k (place + size * i) ls (drop p s)) n ∙ one-list (count - (i + 1)) (place + size * i) ls (drop p s)
-        ∙ ap (λ (k : ℕ). andThen (mapGot (sets ls (place + size * i)) (block book start (drop p s))) (drop p s) (readSide book start (count - (i + 1)) k)) (ap (λ (k : ℕ). place + size * i + k) (sym e) ∙ on)) g
-
-    pub side-on : {room : ℕ} (answer : ListAnswer) (next : ℕ) (left : List ℤ) → answer ≡ End next → Decoded p room (block book start (drop p s)) ls (place + size * i) answer left → Rest whole at next (readSide book start (count - (i + 1)) (place + size * (i + 1)) left (drop next s))
-    side-on answer next left a d = rest-on s (readSide book start (count - (i + 1)) (place + size * (i + 1))) next-list answer next left a (stored p _ (block book start (drop p s)) ls (place + size * i) answer left d)
-
-    pub side-stops : {room : ℕ} (answer : ListAnswer) (r : Refusal) (left : List ℤ) → answer ≡ Refused r → Decoded p room (block book start (drop p s)) ls (place + size * i) answer left → Left at whole (Refused r) left
-    side-stops answer r left a d = rest-stops s (readSide book start (count - (i + 1)) (place + size * (i + 1))) next-list answer r left a (stored p _ (block book start (drop p s)) ls (place + size * i) answer left d)
-
-  pub side-ends : {whole : Got (List ℤ)} {at p : ℕ} (place count i : ℕ) (ls : List ℤ) (s : List Bool) → count ≤ i → Rest whole at p (readSide book start (count - i) place ls s) → Left at whole (End p) ls
-  unfolding readSide
-  side-ends place count i ls s h g =
-      let z : count - i ≡ 0 = omega arith in
-      rest-none (rest-is (ap (λ (k : ℕ). readSide book start k place ls s) z) g)
-
 -- ---- the groups
 module _ (pattern : ℕ) where
   pub luma-coded : (q : ℕ) → q < 4 → itemCoded pattern (4 * q) ≡ quadrantCoded pattern q
@@ -236,24 +197,3 @@ class-two pattern e = ac-coded pattern ∙ eq-eqb (classOf pattern) 2 e
 
 pub not-class-two : (pattern : ℕ) → (classOf pattern ≡ 2 → ⊥) → itemCoded pattern 18 ≡ false
 not-class-two pattern n = ac-coded pattern ∙ ne-eqb (classOf pattern) 2 n
-
-module _ (pattern : ℕ) where
-  -- quadrant q, then what is behind it
-  pub quadrant-first : {whole : Got (List ℤ)} {at p : ℕ} (q : ℕ) (ls : List ℤ) (s : List Bool) → q < 4 → Rest whole at p (readItems (26 - 4 * q) (4 * q) pattern ls s)
-      → Rest whole at p (andThen (readItems 4 (4 * q) pattern ls s) s (readItems (26 - 4 * (q + 1)) (4 * (q + 1)) pattern))
-  unfolding readItems
-  quadrant-first q ls s h g =
-      let n : 26 - 4 * q ≡ 4 + (26 - 4 * (q + 1)) = omega arith in
-      let on : 4 * q + 4 ≡ 4 * (q + 1) = omega arith in
-      rest-is (ap (λ (k : ℕ). readLists readItem k (4 * q) pattern ls s) n ∙ read-parts readItem pattern 4 (26 - 4 * (q + 1)) (4 * q) ls s
-      ∙ ap (λ (k : ℕ). andThen (readLists readItem 4 (4 * q) pattern ls s) s (readLists readItem (26 - 4 * (q + 1)) k pattern)) on) g
-
-  -- chroma DC, then chroma AC
-  pub dc-first : (ls : List ℤ) (s : List Bool) → readItems 10 16 pattern ls s ≡ andThen (readItems 2 16 pattern ls s) s (readItems 8 18 pattern)
-  unfolding readItems
-  dc-first ls s = read-parts readItem pattern 2 8 16 ls s
-
-  pub no-chroma : classOf pattern ≡ 0 → (ls : List ℤ) (s : List Bool) → readItems 10 16 pattern ls s ≡ got ls 0
-  no-chroma e ls s =
-      let n = no-class pattern e in
-      dc-first ls s ∙ rw (side-unread dc-side pattern (n .0) ls s, side-unread ac-side pattern (n .1) ls s)

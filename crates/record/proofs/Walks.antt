@@ -68,12 +68,17 @@ module _ {E : Type 0} {whole : Got (List ℤ)} {at p : ℕ} {part : Got (List �
       left-refused at whole r left (g .is ∙ ap (λ (a : Got (List ℤ)). after (p - at) (andThen a (drop p s) f)) (refused-by p part r left (rw a at l)))
 
 -- the last part
+pub rest-answer : (whole : Got (List ℤ)) (at p : ℕ) (part : Got (List ℤ)) → Rest whole at p part → listAnswer p part ≡ listAnswer at whole
+rest-answer whole at p (got ls n) g =
+    let far : p + n ≡ at + (p - at + n) = omega (arith, g .on) in
+    ap End far ∙ ap (listAnswer at) (sym (g .is))
+rest-answer whole at p (refused r) g = ap (listAnswer at) (sym (g .is))
+
 pub rest-last : {whole : Got (List ℤ)} {at p : ℕ} (part : Got (List ℤ)) (answer : ListAnswer) (left : List ℤ) → Rest whole at p part → Left p part answer left → Left at whole answer left
 rest-last {whole} {at} {p} (got ls n) answer left g l =
-    let far : p + n ≡ at + (p - at + n) = omega (arith, g .on) in
-    record { answers = l .answers ∙ ap End far ∙ ap (listAnswer at) (sym (g .is)); leaves = λ xs k e. l .leaves ls n refl ∙ got-value (sym (g .is) ∙ e) }
+    record { answers = l .answers ∙ rest-answer whole at p (got ls n) g; leaves = λ xs k e. l .leaves ls n refl ∙ got-value (sym (g .is) ∙ e) }
 rest-last {whole} {at} {p} (refused r) answer left g l =
-    record { answers = l .answers ∙ ap (listAnswer at) (sym (g .is)); leaves = λ xs k e. never (sym (g .is) ∙ e) }
+    record { answers = l .answers ∙ rest-answer whole at p (refused r) g; leaves = λ xs k e. never (sym (g .is) ∙ e) }
 
 -- nothing is left
 pub rest-none : {whole : Got (List ℤ)} {at p : ℕ} {ls : List ℤ} → Rest whole at p (got ls 0) → Left at whole (End p) ls

@@ -5,3 +5,4 @@ pub mod Sides
 pub mod Parse
 pub mod Range
 pub mod Answers
+pub mod Left

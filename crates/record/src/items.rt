@@ -1,11 +1,11 @@
 // The 26 lists of levels: which are coded, where each stands among the 392 levels, and reading them from the bits.
 ghost use mathlib.Core.Path.{_≡_};
 ghost use Prim.Native.Nat.{_+_, _*_, _≤_, _<_, _^_};
-ghost use lib.ListN.{length, drop};
+ghost use lib.ListN.{length};
 ghost use Rattle.bits.specs.Bits.{bitList};
 ghost use Rattle.record.specs.Items.{itemCoded, itemPlace, Group, readItems};
 ghost use Rattle.record.specs.Sides.{readSide};
-ghost use Rattle.record.specs.Answers.{Left};
+ghost use Rattle.record.specs.Left.{leftSide, leftItems, Leaves};
 use residual::svq3_cbp::chroma_class;
 use residual::svq3_cbp::luma_quadrant_coded;
 use residual::svq3_coeff::ListAnswer;
@@ -52,7 +52,7 @@ pub fn item_place(i: usize) -> usize
     }
 }
 
-// `count` lists of 4×4 blocks, which are stored side by side from `place` on. After a refusal the lists before the refused one are stored, here and below.
+// `count` lists of 4×4 blocks, which are stored side by side from `place` on. After a refusal the lists before the refused one are stored and its own room is 0, here and below.
 fn read_blocks(
     levels: &mut [i32],
     bits: &[u8],
@@ -62,7 +62,7 @@ fn read_blocks(
     start: u32,
 ) -> ListAnswer
     requires { ⌜ (place + 16 * count ≤ length (now levels)) × (start ≤ 1) × (length (now bits) < 2 ^ 61) ⌝ }
-    ensures { λ r. ⌜ Left at (readSide ResidualBook.NormalScan start count place (now (levels .entry)) (drop at (bitList (now (bits .entry))))) r (now (levels .exit)) ⌝ }
+    ensures { λ r. ⌜ Leaves (readSide ResidualBook.NormalScan start count place) (leftSide ResidualBook.NormalScan start count place) (now (levels .entry)) (bitList (now (bits .entry))) at r (now (levels .exit)) ⌝ }
 {
     let mut p = at;
     let mut i = 0;
@@ -81,7 +81,7 @@ fn read_blocks(
 // Cb DC and Cr DC.
 fn read_dc(levels: &mut [i32], bits: &[u8], at: usize) -> ListAnswer
     requires { ⌜ (length (now levels) ≡ 392) × (length (now bits) < 2 ^ 61) ⌝ }
-    ensures { λ r. ⌜ Left at (readSide ResidualBook.ChromaDc 0 2 256 (now (levels .entry)) (drop at (bitList (now (bits .entry))))) r (now (levels .exit)) ⌝ }
+    ensures { λ r. ⌜ Leaves (readSide ResidualBook.ChromaDc 0 2 256) (leftSide ResidualBook.ChromaDc 0 2 256) (now (levels .entry)) (bitList (now (bits .entry))) at r (now (levels .exit)) ⌝ }
 {
     match decode_chroma_dc_2x2(levels, 256, bits, at) {
         ListAnswer::End(next) => decode_chroma_dc_2x2(levels, 260, bits, next),
@@ -92,7 +92,7 @@ fn read_dc(levels: &mut [i32], bits: &[u8], at: usize) -> ListAnswer
 // The four lists of luma quadrant q, where they are coded.
 fn read_quadrant(levels: &mut [i32], bits: &[u8], at: usize, pattern: u8, q: usize) -> ListAnswer
     requires { ⌜ (length (now levels) ≡ 392) × (length (now bits) < 2 ^ 61) × (q < 4) ⌝ }
-    ensures { λ r. ⌜ Left at (readItems 4 (4 * q) pattern (now (levels .entry)) (drop at (bitList (now (bits .entry))))) r (now (levels .exit)) ⌝ }
+    ensures { λ r. ⌜ Leaves (readItems 4 (4 * q) pattern) (leftItems 4 (4 * q) pattern) (now (levels .entry)) (bitList (now (bits .entry))) at r (now (levels .exit)) ⌝ }
 {
     if luma_quadrant_coded(pattern, q as u32) {
         return read_blocks(levels, bits, at, 64 * q, 4, 0);
@@ -103,7 +103,7 @@ fn read_quadrant(levels: &mut [i32], bits: &[u8], at: usize, pattern: u8, q: usi
 // The eight chroma AC lists, where they are coded.
 fn read_ac(levels: &mut [i32], bits: &[u8], at: usize, pattern: u8) -> ListAnswer
     requires { ⌜ (length (now levels) ≡ 392) × (length (now bits) < 2 ^ 61) ⌝ }
-    ensures { λ r. ⌜ Left at (readItems 8 18 pattern (now (levels .entry)) (drop at (bitList (now (bits .entry))))) r (now (levels .exit)) ⌝ }
+    ensures { λ r. ⌜ Leaves (readItems 8 18 pattern) (leftItems 8 18 pattern) (now (levels .entry)) (bitList (now (bits .entry))) at r (now (levels .exit)) ⌝ }
 {
     if chroma_class(pattern) == 2 {
         return read_blocks(levels, bits, at, 264, 8, 1);
@@ -114,7 +114,7 @@ fn read_ac(levels: &mut [i32], bits: &[u8], at: usize, pattern: u8) -> ListAnswe
 // All chroma lists that are coded.
 fn read_chroma(levels: &mut [i32], bits: &[u8], at: usize, pattern: u8) -> ListAnswer
     requires { ⌜ (length (now levels) ≡ 392) × (length (now bits) < 2 ^ 61) ⌝ }
-    ensures { λ r. ⌜ Left at (readItems 10 16 pattern (now (levels .entry)) (drop at (bitList (now (bits .entry))))) r (now (levels .exit)) ⌝ }
+    ensures { λ r. ⌜ Leaves (readItems 10 16 pattern) (leftItems 10 16 pattern) (now (levels .entry)) (bitList (now (bits .entry))) at r (now (levels .exit)) ⌝ }
 {
     if chroma_class(pattern) == 0 {
         return ListAnswer::End(at);
@@ -128,7 +128,7 @@ fn read_chroma(levels: &mut [i32], bits: &[u8], at: usize, pattern: u8) -> ListA
 // All coded lists, each stored at its place.
 pub fn read_items(levels: &mut [i32], bits: &[u8], at: usize, pattern: u8) -> ListAnswer
     requires { ⌜ (length (now levels) ≡ 392) × (length (now bits) < 2 ^ 61) ⌝ }
-    ensures { λ r. ⌜ Left at (readItems 26 0 pattern (now (levels .entry)) (drop at (bitList (now (bits .entry))))) r (now (levels .exit)) ⌝ }
+    ensures { λ r. ⌜ Leaves (readItems 26 0 pattern) (leftItems 26 0 pattern) (now (levels .entry)) (bitList (now (bits .entry))) at r (now (levels .exit)) ⌝ }
 {
     let mut p = at;
     let mut q = 0;

@@ -4,6 +4,7 @@ use borrow.Author.Needs.{needs}
 use lib.ListN.{length}
 use Rattle.bits.specs.Bits.{bitList}
 use Rattle.record.proofs.Lists.{length-noLevels}
+use Rattle.record.proofs.Left.{items-left}
 use Rattle.reading.proofs.Readings.{no-pattern, no-quantiser, no-levels, with-levels}
 use Rattle.reading.proofs.svq3_frame.read_residual.Statement.{statement}
 use Rattle.reading.proofs.svq3_frame.read_residual.Tie as tie
@@ -12,13 +13,13 @@ returns : tie.Need-returns
 returns c m e =
     let a = c .before .before .before .before .before .before .before .before .before .before .before .before .before .before .before .before .before .args in
     with-levels (a .delta) (a .quantiser) (a .motion .call) (a .motion .precision) m (bitList (a .bits .now)) (a .at) _ _ _ (sym (c .before .before .before .before .before .before .before .before .before .before .before .before .before .pattern .given .1) ∙ c .before .before .before .before .before .before .before .before .before .before .before .before .before .before .before .read-cbp-inter .ensures) _ _ (sym (c .before .before .before .before .before .before .before .before .before .q .given .1) ∙ c .before .before .before .before .before .before .before .before .before .before .before .read-quantiser .ensures)
-    _ (c .before .before .before .before .before .before .before .before .before .before .before .before .before .before .before .before .before .pre .0) _ (c .before .before .before .before .before .before .read-items .ensures) _ _ _ (c .before .before .before .next .given .1) (c .precision-number .ensures) e
+    _ (c .before .before .before .before .before .before .before .before .before .before .before .before .before .before .before .before .before .pre .0) _ (items-left 26 0 _ _ _ _ _ _ (c .before .before .before .before .before .before .read-items .ensures)) _ _ _ (c .before .before .before .next .given .1) (c .precision-number .ensures) e
 
 returns-2 : tie.Need-returns-2
 returns-2 c m e =
     let a = c .before .before .before .before .before .before .before .before .before .before .before .before .before .before .before .args in
     no-levels (a .delta) (a .quantiser) (a .motion .call) (a .motion .precision) m (bitList (a .bits .now)) (a .at) _ _ _ (sym (c .before .before .before .before .before .before .before .before .before .before .before .pattern .given .1) ∙ c .before .before .before .before .before .before .before .before .before .before .before .before .before .read-cbp-inter .ensures) _ _ (sym (c .before .before .before .before .before .before .before .q .given .1) ∙ c .before .before .before .before .before .before .before .before .before .read-quantiser .ensures)
-    _ (c .before .before .before .before .before .before .before .before .before .before .before .before .before .before .before .pre .0) _ (c .before .before .before .before .read-items .ensures) _ (c .before .r .given .1)
+    _ (c .before .before .before .before .before .before .before .before .before .before .before .before .before .before .before .pre .0) _ (items-left 26 0 _ _ _ _ _ _ (c .before .before .before .before .read-items .ensures)) _ (c .before .r .given .1)
 
 returns-3 : tie.Need-returns-3
 returns-3 c m e =

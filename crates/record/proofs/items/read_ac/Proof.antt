@@ -1,11 +1,9 @@
 -- `record::items::read_ac` reads the eight lists, or none.
-use mathlib.Core.Path.{refl, sym, _∙_}
-use native.Mathlib.Omega.{arith}
+use mathlib.Core.Path.{sym, _∙_}
 use borrow.Author.Needs.{needs}
-use lib.ListN.{drop}
 use Rattle.bits.specs.Bits.{bitList}
-use Rattle.record.proofs.Answers.{left-end}
-use Rattle.record.proofs.Sides.{ac-side, ac-place, class-two, not-class-two, side-read, side-unread}
+use Rattle.record.proofs.Sides.{ac-side, ac-place, class-two, not-class-two}
+use Rattle.record.proofs.Left.{side-leaves, side-passed}
 use Rattle.record.proofs.items.read_ac.Statement.{statement}
 use Rattle.record.proofs.items.read_ac.Tie as tie
 
@@ -13,13 +11,13 @@ returns : tie.Need-returns
 returns c =
     let a = c .before .before .before .before .before .before .args in
     let t = class-two (a .pattern) (sym (c .before .before .before .before .chroma-class .ensures) ∙ c .before .before .before .if1 .taken) in
-    rw (side-read ac-side (a .pattern) t 264 ac-place (a .levels .now) (drop (a .at) (bitList (a .bits .now)))) (c .before .read-blocks .ensures)
+    side-leaves ac-side (a .pattern) (a .levels .now) (bitList (a .bits .now)) (a .at) t 264 ac-place _ _ (c .before .read-blocks .ensures)
 
 returns-2 : tie.Need-returns-2
 returns-2 c =
     let a = c .before .before .before .args in
     let t = not-class-two (a .pattern) (λ e. c .if1 .left (c .before .chroma-class .ensures ∙ e)) in
-    left-end (a .at) _ (a .at) 0 (a .levels .now) (side-unread ac-side (a .pattern) t (a .levels .now) (drop (a .at) (bitList (a .bits .now)))) (omega arith)
+    side-passed ac-side (a .pattern) (a .levels .now) (bitList (a .bits .now)) (a .at) t
 
 pub read-ac-spec : {M : Type 1} → statement M
 read-ac-spec = tie.close (tie.spec (λ c κs. search needs) (λ c κs. search needs) (λ c. search needs) returns returns-2)

@@ -1,5 +1,5 @@
 -- `record::items::read_blocks`: the lists that are left, joined to those that were read, are the whole.
-use mathlib.Core.Path.{_≡_, refl, sym, _∙_}
+use mathlib.Core.Path.{_≡_, refl, _∙_}
 use Prim.Native.Nat.{_+_, _-_, _*_, _≤_}
 use native.Mathlib.Omega.{arith}
 use borrow.Author.Needs.{needs}
@@ -7,14 +7,14 @@ use lib.ListN.{length, drop}
 use Rattle.bits.specs.Bits.{bitList}
 use Rattle.residual.specs.declared.svq3_coeff.ResidualBook.the-variants.{NormalScan}
 use Rattle.record.specs.Sides.{readSide}
-use Rattle.record.proofs.Walks.{Rest, rest-all}
-use Rattle.record.proofs.Sides.{side-on, side-stops, side-ends}
+use Rattle.record.specs.Left.{leftSide}
+use Rattle.record.proofs.Left.{Goes, goes-all, side-on, side-stops, side-ends}
 use Rattle.record.proofs.items.read_blocks.Statement.{statement}
 use Rattle.record.proofs.items.read_blocks.Tie as tie
 
 abbrev Inv-loop : tie.InvT-loop
 Inv-loop levels₀ bits at place count start p₀ i₀ levels p i =
-    Rest (readSide NormalScan start count place levels₀ (drop at (bitList bits))) at p (readSide NormalScan start (count - i) (place + 16 * i) levels (drop p (bitList bits))) × (i ≤ count) × (length levels ≡ length levels₀)
+    Goes (readSide NormalScan start count place) (leftSide NormalScan start count place) levels₀ (bitList bits) at p (readSide NormalScan start (count - i) (place + 16 * i) levels (drop p (bitList bits))) (leftSide NormalScan start (count - i) (place + 16 * i) levels (drop p (bitList bits))) × (i ≤ count) × (length levels ≡ length levels₀)
 
 abbrev μ-loop : tie.MeasureT-loop
 μ-loop levels₀ bits at place count start p₀ i₀ levels p i = count - i
@@ -24,7 +24,7 @@ loop-holds c =
     let a = c .before .args in
     let z : a .count - 0 ≡ a .count = omega arith in
     let f : a .place + 16 * 0 ≡ a .place = omega arith in
-    (rw (z, f) (rest-all _ (a .at)), omega arith, refl)
+    (rw (z, f) (goes-all (readSide NormalScan (a .start) (a .count) (a .place)) (leftSide NormalScan (a .start) (a .count) (a .place)) (a .levels .now) (bitList (a .bits .now)) (a .at)), omega arith, refl)
 
 mul-decode-residual-4x4-normal : tie.Need-mul-decode-residual-4x4-normal Inv-loop μ-loop
 mul-decode-residual-4x4-normal c = record { fits = omega (arith, c .before .loop-test .taken, c .before .before .before .before .pre .0) }
@@ -50,7 +50,7 @@ loop-again c =
     let l = c .before .before .before .before .before .before .before .loop in
     let h = c .before .before .before .before .before .before .loop-test .taken in
     let d = c .before .before .before .before .decode-residual-4x4-normal in
-    (side-on NormalScan (a .start) (a .place) (a .count) (l .i) (l .levels) (bitList (a .bits .now)) 16 refl h (l .inv .0) _ _ _ (c .before .next .given .1) (d .ensures), omega (arith, h), d .kept .0 ∙ l .inv .2)
+    (side-on NormalScan (a .start) (a .place) (a .count) (l .i) (l .p) (l .levels) (l .inv .0) h _ _ (d .ensures) _ (c .before .next .given .1), omega (arith, h), d .kept .0 ∙ l .inv .2)
 
 enum-known-r : tie.Need-enum-known-r Inv-loop μ-loop
 enum-known-r c = search needs
@@ -62,7 +62,7 @@ returns : tie.Need-returns Inv-loop μ-loop
 returns c =
     let a = c .before .before .before .before .before .before .before .before .before .args in
     let l = c .before .before .before .before .before .before .before .loop in
-    side-stops NormalScan (a .start) (a .place) (a .count) (l .i) (l .levels) (bitList (a .bits .now)) 16 refl (c .before .before .before .before .before .before .loop-test .taken) (l .inv .0) _ _ _ (c .before .r .given .1) (c .before .before .before .before .decode-residual-4x4-normal .ensures)
+    side-stops NormalScan (a .start) (a .place) (a .count) (l .i) (l .p) (l .levels) (l .inv .0) (c .before .before .before .before .before .before .loop-test .taken) _ _ (c .before .before .before .before .decode-residual-4x4-normal .ensures) _ (c .before .r .given .1)
 
 same-length-2 : tie.Need-same-length-2 Inv-loop μ-loop
 same-length-2 c = c .before .loop .inv .2
@@ -71,7 +71,7 @@ returns-2 : tie.Need-returns-2 Inv-loop μ-loop
 returns-2 c =
     let a = c .before .before .before .args in
     let l = c .before .loop in
-    side-ends NormalScan (a .start) (a .place + 16 * l .i) (a .count) (l .i) (l .levels) (drop (l .p) (bitList (a .bits .now))) (c .loop-test .left) (l .inv .0)
+    side-ends NormalScan (a .start) (a .place) (a .count) (l .i) (l .p) (l .levels) (l .inv .0) (c .loop-test .left)
 
 pub read-blocks-spec : {M : Type 1} → statement M
 read-blocks-spec =
