@@ -25,19 +25,12 @@ use Rattle.record.proofs.Lengths.{record-length}
 use Rattle.record.specs.Items.{writeLists}
 use Rattle.record.specs.Write.{signedNumbers, itemBytes, itemsBytes, restBytes, recordBytes}
 use Rattle.record.specs.Sides.{sideBytes}
-use Rattle.transcript.specs.Answers.{Written, Ahead}
+use Rattle.transcript.specs.Answers.{Written}
 use Rattle.record.proofs.Turns.{when-true, when-false}
 use Rattle.record.proofs.Sets.{sets-append}
 use Rattle.record.proofs.Sides.{write-parts, dc-side, ac-side, dc-place, no-class, some-class, side-written, side-unwritten}
 
 -- ---- one part after another
-pub written-ahead : {out : List ℕ} {at : ℕ} {bytes : List ℕ} {next : ℕ} {left : List ℕ} → Written out at bytes next left → Ahead out at bytes next left
-written-ahead {out} {at} {bytes} {next} {left} w =
-    record {
-      moved = w .moved;
-      leaves = λ b rest. ap (λ (l : List ℕ). sets l next (b ∷ rest)) (w .leaves) ∙ ap (λ (n : ℕ). sets (sets out at bytes) n (b ∷ rest)) (w .moved) ∙ sym (sets-append out at bytes (b ∷ rest));
-    }
-
 pub written-on : {out mid left : List ℕ} {at p next : ℕ} {a b : List ℕ} → Written out at a p mid → Written mid p b next left → Written out at (a ++ b) next left
 written-on {out} {mid} {left} {at} {p} {next} {a} {b} v w =
     record {
@@ -76,17 +69,18 @@ module _ {out₀ : List ℕ} {at : ℕ} {bytes out : List ℕ} {p : ℕ} {rest :
   still-fits-more a b e k h = omega (arith, s .moved, s .same, ap length e ∙ length-append a b)
 
   -- a part of it is written, and perhaps one byte behind it, which is still to be written
-  pub still-ahead : {a b : List ℕ} {next : ℕ} {left : List ℕ} → rest ≡ a ++ b → 0 < length b → Ahead out p a next left → length left ≡ length out → Still out₀ at bytes left next b
-  still-ahead {a} {b} {next} {left} e h w n =
+  pub still-ahead : (a : List ℕ) {b : List ℕ} {next : ℕ} {left : List ℕ} → rest ≡ a ++ b → 0 < length b → next ≡ p + length a → ((x : ℕ) (more : List ℕ) → sets left next (x ∷ more) ≡ sets out p (a ++ x ∷ more)) → length left ≡ length out
+      → Still out₀ at bytes left next b
+  still-ahead a {b} {next} {left} e h w l n =
       record {
-        moved = omega (arith, w .moved, s .moved, ap length e ∙ length-append a b);
+        moved = omega (arith, s .moved, ap length e ∙ length-append a b);
         leaves = over b h ∙ ap (sets out p) (sym e) ∙ s .leaves;
         same = n ∙ s .same;
       }
     where
       over : (b : List ℕ) → 0 < length b → sets left next b ≡ sets out p (a ++ b)
       over [] h = absurd (omega arith)
-      over (x ∷ b) h = w .leaves x b
+      over (x ∷ b) h = l x b
 
   -- all of it has room, and is written
   pub still-room : at + length bytes ≤ length out₀ → p + length rest ≤ length out

@@ -7,8 +7,8 @@ ghost use lib.Seq.{sets};
 ghost use Rattle.record.specs.Write.{signedNumbers, itemsBytes, restBytes, recordBytes};
 ghost use Rattle.record.specs.Sides.{sideBytes};
 ghost use Rattle.record.specs.Record.{recordOf, skipRecord};
-ghost use Rattle.transcript.specs.Answers.{Written, Ahead};
-ghost use Rattle.transcript.specs.Short.{nearOf, sentNear, allNear, Near};
+ghost use Rattle.transcript.specs.Answers.{Written};
+ghost use Rattle.transcript.specs.Short.{nearOf, sentNear, allNear, Near, Ahead};
 ghost use Rattle.record.specs.Range.{HeadRange};
 use ints::clamp_i32;
 use number::put_number;
@@ -110,7 +110,7 @@ fn put_list(out: &mut [u8], numbers: &[i32], at: usize, first: usize, count: usi
 // `count` signed numbers, and where they are short the one behind them too, over which the next byte is written: with 15 the compiler stores sixteen bytes at once.
 fn put_list_ahead(out: &mut [u8], numbers: &[i32], at: usize, first: usize, count: usize) -> usize
     requires { ⌜ (count < 16) × (first + count < length (now numbers)) × (at + length (signedNumbers (take count (drop first (now numbers)))) < length (now out)) ⌝ }
-    ensures { λ r. ⌜ Ahead (now (out .entry)) at (signedNumbers (take count (drop first (now (numbers .entry))))) r (now (out .exit)) ⌝ }
+    ensures { λ r. ⌜ Ahead (now (out .entry)) at (now (numbers .entry)) first count r (now (out .exit)) ⌝ }
 {
     let t = take_near(numbers, first, count + 1);
     if all_short(&t, count + 1) {

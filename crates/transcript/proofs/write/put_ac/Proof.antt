@@ -10,6 +10,7 @@ use lib.ListN.{length, take, drop}
 use Rattle.residual.specs.declared.svq3_coeff.ResidualBook.the-variants.{NormalScan}
 use Rattle.record.specs.Write.{signedNumbers}
 use Rattle.record.specs.Sides.{sideBytes}
+use Rattle.transcript.proofs.Short.{ahead-over}
 use Rattle.transcript.proofs.Writing.{Still, still-all, still-fits, still-fits-more, still-more, still-ahead, still-none, first-list, some-list, no-list}
 use Rattle.transcript.proofs.write.put_ac.Statement.{statement}
 use Rattle.transcript.proofs.write.put_ac.Tie as tie
@@ -61,7 +62,7 @@ loop-again c =
     let h = c .before .before .before .before .loop-test .taken in
     let ls = s .args .levels .now in
     let w = c .before .before .put-list-ahead in
-    (still-ahead (l .inv .0) {a = one ls (l .i)} (next-list ls (l .i) (omega (arith, h))) (more ls (l .i) (s .pre .0) h) (w .ensures) (w .kept .0), omega (arith, h))
+    (still-ahead (l .inv .0) (one ls (l .i)) (next-list ls (l .i) (omega (arith, h))) (more ls (l .i) (s .pre .0) h) (w .ensures .moved) (ahead-over ls (265 + 16 * l .i) 15 (omega (arith, h, s .pre .0)) (w .ensures)) (w .kept .0), omega (arith, h))
 
 put-list-requires : tie.Need-put-list-requires Inv-loop μ-loop
 put-list-requires c κs =
