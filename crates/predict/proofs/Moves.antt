@@ -16,7 +16,8 @@ use Rattle.ints.proofs.Linear.{up, down, z-rules, add-z, diff-z, abs-z, mag-z, 
 use Rattle.ints.proofs.Laws.{sat-fits, sat-same, no-over, over-sat, add-diff}
 use Rattle.ints.proofs.Same.{reads}
 use Rattle.predict.proofs.Tests.{neither}
-use Rattle.predict.specs.Units.{roundToSixths, unitsInSample, convertPredictor, storedScale, summed, scaled, storedPart, clippedPart}
+use Rattle.predict.specs.Units.{roundToSixths, convertPredictor, storedScale, summed, scaled, storedPart, clippedPart}
+use Rattle.predict.specs.Samples.{unitsInSample}
 use Rattle.predict.specs.Difference.{differenceOf}
 use Rattle.vectors.specs.declared.svq3_mb.Svq3MvPrecision.{Svq3MvPrecision}
 use Rattle.vectors.specs.declared.svq3_mb.Svq3MvPrecision.the-variants.{Fullpel, Halfpel, Thirdpel}

@@ -2,4 +2,5 @@ pub mod Predict
 pub mod Units
 pub mod Stored
 pub mod Window
+pub mod Samples
 pub mod Difference

@@ -18,12 +18,7 @@ convertPredictor Fullpel p = roundToSixths p
 convertPredictor Halfpel p = roundToSixths (pos 2 *ℤ p)
 convertPredictor Thirdpel p = floorZ (p +ℤ pos 1) 2
 
--- how many units a sample is, and how many sixths a unit is
-abbrev pub unitsInSample : Svq3MvPrecision → ℕ
-unitsInSample Fullpel = 1
-unitsInSample Halfpel = 2
-unitsInSample Thirdpel = 3
-
+-- how many sixths a unit is
 abbrev pub storedScale : Svq3MvPrecision → ℕ
 storedScale Fullpel = 6
 storedScale Halfpel = 3
