@@ -168,7 +168,7 @@ module _ (width bx : ℕ) {columns : List ℕ} (is : columns ≡ row (replicate 
   picked-block plane height by w h l le = painted-values w 0 0 w h _ _ l (λ r c lr lc. rw (is, columns-at width bx c (omega arith)))
 
 -- ---- a source that holds the taps t
-four-taps : (f : ℕ → ℕ → ℕ → ℕ → ℕ) (src : List ℕ) (stride from : ℕ) (t : ℕ → ℕ → ℕ) (r c : ℕ) → ((r′ c′ : ℕ) → r′ ≤ r + 1 → c′ ≤ c + 1 → getD src (from + r′ * stride + c′) 0 ≡ t r′ c′)
+pub four-taps : (f : ℕ → ℕ → ℕ → ℕ → ℕ) (src : List ℕ) (stride from : ℕ) (t : ℕ → ℕ → ℕ) (r c : ℕ) → ((r′ c′ : ℕ) → r′ ≤ r + 1 → c′ ≤ c + 1 → getD src (from + r′ * stride + c′) 0 ≡ t r′ c′)
     → fourBlock f src stride from r c ≡ f (t r c) (t r (c + 1)) (t (r + 1) c) (t (r + 1) (c + 1))
 unfolding fourBlock fourRow fourAt
 four-taps f src stride from t r c e =

@@ -3,12 +3,13 @@
 -- Assumes nothing.
 use mathlib.Core.Path.{_≡_}
 use mathlib.Core.List.{List, [], _∷_}
-use Prim.Native.Nat.{ℕ, _+_, _-_, _*_, _/_, _%_, _^_, _≤_, min}
+use Prim.Native.Nat.{ℕ, _+_, _-_, _*_, _/_, _%_, _^_, _≤_, _<_, min}
 use mathlib.Core.Bool.{_&&_}
 use lib.Dec.{eqb}
 use lib.IntN.{ℤ, pos, negsuc, natAbs, _+ℤ_}
 use lib.ListN.{getD}
 use Rattle.ints.specs.Z.{if_then_else_, clampZ}
+use Rattle.picture.specs.Rows.{run}
 use Rattle.compensation.specs.Formula.{formula}
 use Rattle.compensation.specs.declared.kernel.Mix.{Mix}
 
@@ -115,6 +116,18 @@ lineAt plane line width bx c = getD plane (line + near width (bx + c)) 0
 -- tap c of row r of a block whose first lies at (bx, by)
 unfoldable pub windowAt : List ℕ → ℕ → ℕ → ℕ → ℕ → ℕ → ℕ → ℕ
 windowAt plane width height bx by r = lineAt plane (near height (by + r) * width) width bx
+
+-- sample c of the line that is r rows on from the place by, counted from the column `from`
+unfoldable pub runAt : List ℕ → ℕ → ℕ → ℕ → ℕ → ℕ → ℕ → ℕ
+runAt plane width height by from r = run plane (near height (by + r) * width + from)
+
+-- that line's sample of one column, whatever c
+unfoldable pub edgeAt : List ℕ → ℕ → ℕ → ℕ → ℕ → ℕ → ℕ → ℕ
+edgeAt plane width height by edge r c = getD plane (near height (by + r) * width + edge) 0
+
+-- h rows of 34 places: in each the 17 from `from` on are v
+pub record Wide (window : List ℕ) (from h : ℕ) (v : ℕ → ℕ → ℕ) : Type 0 where
+  pub at : (r c : ℕ) → r < h → c < 17 → getD window (from + r * 34 + c) 0 ≡ v r c
 
 -- a function of the four taps of sample c of row r
 unfoldable pub windowBlock : (ℕ → ℕ → ℕ → ℕ → ℕ) → List ℕ → ℕ → ℕ → ℕ → ℕ → ℕ → ℕ → ℕ

@@ -13,6 +13,7 @@ use crate::kernel::extra_of;
 use crate::tiles::interpolate;
 use crate::tiles::interpolate_pair;
 use crate::window::gather;
+use crate::window::gather_wide;
 use crate::window::origin;
 use ints::half_toward_zero;
 use refusal::Refusal;
@@ -54,9 +55,15 @@ fn across_edge(
     requires { ⌜ Whole width height (length (now plane)) × (bx ≤ width + 16) × (by ≤ height + 16) ⌝ }
     ensures { λ _. ⌜ now (dst .exit) ≡ painted dstride dx dy w h (windowBlock (formula px py) (now (plane .entry)) width height bx by) (now (dst .entry)) ⌝ }
 {
-    let mut window = [0u8; 289];
-    gather(&mut window, plane, width, height, bx, by, w + 1, h + 1);
-    interpolate(dst, &window, dstride, dx, dy, w, h, w + 1, 0, px, py);
+    if 17 <= width {
+        let mut window = [0u8; 578];
+        let from = gather_wide(&mut window, plane, width, height, bx, by, h + 1);
+        interpolate(dst, &window, dstride, dx, dy, w, h, 34, from, px, py);
+    } else {
+        let mut window = [0u8; 289];
+        gather(&mut window, plane, width, height, bx, by, w + 1, h + 1);
+        interpolate(dst, &window, dstride, dx, dy, w, h, w + 1, 0, px, py);
+    }
 }
 
 // How a block reads its taps: the phases, where its first tap lies as `origin` counts, and whether all lie inside the plane.

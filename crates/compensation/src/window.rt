@@ -1,13 +1,14 @@
 // The taps of a block: where the first lies, and, for a block across an edge, all of them by rows, edges repeated.
 ghost use mathlib.Core.Path.{_≡_};
-ghost use Prim.Native.Nat.{ℕ, _+_, _*_, _<_, _≤_};
+ghost use Prim.Native.Nat.{ℕ, _+_, _-_, _*_, _%_, _<_, _≤_};
 ghost use lib.IntN.{_+ℤ_};
 ghost use lib.ListN.{length, getD, replicate};
 ghost use Rattle.picture.specs.Painted.{Inside, painted};
-ghost use Rattle.picture.specs.Rows.{row};
-ghost use Rattle.compensation.specs.Kernel.{originOf, near, nearFrom, picked, pickedAt, windowAt};
+ghost use Rattle.picture.specs.Rows.{row, run};
+ghost use Rattle.compensation.specs.Kernel.{originOf, near, nearFrom, picked, pickedAt, windowAt, Wide, runAt, edgeAt};
 ghost use Rattle.compensation.specs.Block.{Whole};
 use ints::clamp_i64;
+use picture::rows::store_row;
 
 // The column, or row, of a block's first tap.
 pub fn origin(place: i32, whole: i32, n: usize) -> usize
@@ -85,7 +86,7 @@ fn gather_rows(
     }
 }
 
-// The w × h taps whose first lies at (bx, by). The widths that partitions have are told to the compiler: rows of known length need no loop.
+// The w × h taps whose first lies at (bx, by), one by one: for planes of less than 17 columns.
 pub fn gather(
     window: &mut [u8],
     plane: &[u8],
@@ -101,13 +102,112 @@ pub fn gather(
     ensures { λ _. ⌜ now (window .exit) ≡ painted w 0 0 w h (windowAt (now (plane .entry)) width height bx by) (now (window .entry)) ⌝ }
 {
     let columns = columns_of(width, bx);
-    if w == 17 {
-        gather_rows(window, plane, &columns, width, height, by, 17, h);
-    } else if w == 9 {
-        gather_rows(window, plane, &columns, width, height, by, 9, h);
-    } else if w == 5 {
-        gather_rows(window, plane, &columns, width, height, by, 5, h);
-    } else {
-        gather_rows(window, plane, &columns, width, height, by, w, h);
+    gather_rows(window, plane, &columns, width, height, by, w, h);
+}
+
+fn fill_run(window: &mut [u8], at: usize, sample: u8)
+    requires { ⌜ at + 17 ≤ length (now window) ⌝ }
+    ensures { λ _. ⌜ now (window .exit) ≡ row (now (window .entry)) at (λ k. sample) 17 ⌝ }
+{
+    let mut c = 0;
+    while c < 17 {
+        window[at + c] = sample;
+        c += 1;
     }
+}
+
+fn copy_run(window: &mut [u8], at: usize, plane: &[u8], from: usize)
+    requires { ⌜ (at + 17 ≤ length (now window)) × (from + 17 ≤ length (now plane)) ⌝ }
+    ensures { λ _. ⌜ now (window .exit) ≡ row (now (window .entry)) at (run (now (plane .entry)) from) 17 ⌝ }
+{
+    let last = plane[from + 16];
+    store_row(window, at, plane, from, 16);
+    window[at + 16] = last;
+}
+
+// 17 samples of each of h lines, from the column `from` on, into rows of 34 places: the first of them.
+fn gather_between(
+    window: &mut [u8],
+    plane: &[u8],
+    width: usize,
+    height: usize,
+    by: usize,
+    h: usize,
+    from: usize,
+)
+    requires { ⌜ (h * 34 ≤ length (now window)) × (h ≤ 17) ⌝ }
+    requires { ⌜ Whole width height (length (now plane)) × (by ≤ height + 16) × (from + 17 ≤ width) ⌝ }
+    ensures { λ _. ⌜ Wide (now (window .exit)) 0 h (runAt (now (plane .entry)) width height by from) ⌝ }
+{
+    let mut r = 0;
+    while r < h {
+        let line = near_of(height, by + r) * width;
+        copy_run(window, r * 34, plane, line + from);
+        r += 1;
+    }
+}
+
+// The same from the place `to` of each row on; and the sample of the column `edge` in the row's other 17 places.
+fn gather_beside(
+    window: &mut [u8],
+    plane: &[u8],
+    width: usize,
+    height: usize,
+    by: usize,
+    h: usize,
+    from: usize,
+    to: usize,
+    edge: usize,
+)
+    requires { ⌜ (h * 34 ≤ length (now window)) × (h ≤ 17) × (to ≤ 17) × (to % 17 ≡ 0) ⌝ }
+    requires { ⌜ Whole width height (length (now plane)) × (by ≤ height + 16) × (from + 17 ≤ width) × (edge < width) ⌝ }
+    ensures { λ _. ⌜ Wide (now (window .exit)) to h (runAt (now (plane .entry)) width height by from) ⌝ }
+    ensures { λ _. ⌜ Wide (now (window .exit)) (17 - to) h (edgeAt (now (plane .entry)) width height by edge) ⌝ }
+{
+    let mut r = 0;
+    while r < h {
+        let line = near_of(height, by + r) * width;
+        let sample = plane[line + edge];
+        copy_run(window, r * 34 + to, plane, line + from);
+        fill_run(window, r * 34 + (17 - to), sample);
+        r += 1;
+    }
+}
+
+// 17 taps of each of h rows, the first of them at (bx, by): a row of 34 places holds them from the answer on.
+// Left of the plane a row is 17 times the line's first sample, then its first 17; right of it the last 17, then 17 times the last.
+// Runs of known length need no loop, and nothing is clamped by column.
+pub fn gather_wide(
+    window: &mut [u8],
+    plane: &[u8],
+    width: usize,
+    height: usize,
+    bx: usize,
+    by: usize,
+    h: usize,
+) -> usize
+    requires { ⌜ (h * 34 ≤ length (now window)) × (h ≤ 17) × (17 ≤ width) ⌝ }
+    requires { ⌜ Whole width height (length (now plane)) × (bx ≤ width + 16) × (by ≤ height + 16) ⌝ }
+    ensures { λ from. ⌜ (from ≤ 17) × Wide (now (window .exit)) from h (windowAt (now (plane .entry)) width height bx by) ⌝ }
+{
+    if bx < 17 {
+        gather_beside(window, plane, width, height, by, h, 0, 17, 0);
+        return bx;
+    }
+    if width < bx {
+        gather_beside(
+            window,
+            plane,
+            width,
+            height,
+            by,
+            h,
+            width - 17,
+            0,
+            width - 1,
+        );
+        return bx - width;
+    }
+    gather_between(window, plane, width, height, by, h, bx - 17);
+    0
 }

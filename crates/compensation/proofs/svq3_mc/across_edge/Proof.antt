@@ -8,24 +8,41 @@ use Rattle.compensation.specs.Formula.{formula}
 use Rattle.compensation.specs.Kernel.{windowBlock}
 use Rattle.compensation.proofs.Sides.{window-inside, window-room}
 use Rattle.compensation.proofs.Taps.{extra-le, gathered-sample}
+use Rattle.compensation.proofs.Wide.{wide-sample}
 use Rattle.compensation.proofs.svq3_mc.across_edge.Statement.{statement}
 use Rattle.compensation.proofs.svq3_mc.across_edge.Tie as tie
 
-gather-requires : tie.Need-gather-requires
-gather-requires c κs = ((window-inside (c .before .before .before .pre .0 .0), omega arith, omega arith), c .before .before .before .pre .1)
-
 interpolate-requires : tie.Need-interpolate-requires
 interpolate-requires c κs =
-    let s = c .before .before .before .before .before .before .before in
+    let s = c .before .before .before .before .before .before .before .before in
+    let p = s .pre .0 in
+    let g = c .before .before .before .gather-wide in
+    (p .0, p .1, p .2, p .3, omega (arith, extra-le (s .args .px) (s .args .py), g .kept .0, g .ensures .0))
+
+gather-requires : tie.Need-gather-requires
+gather-requires c κs = let s = c .before .before .before .before in ((window-inside (s .pre .0 .0), omega arith, omega arith), s .pre .1)
+
+interpolate-requires-2 : tie.Need-interpolate-requires-2
+interpolate-requires-2 c κs =
+    let s = c .before .before .before .before .before .before .before .before in
     let p = s .pre .0 in
     (p .0, p .1, p .2, p .3, omega (arith, window-room (p .0) (extra-le (s .args .px) (s .args .py)), c .before .before .before .gather .kept .0))
 
 returns : tie.Need-returns
 returns c =
-    let a = c .before .before .before .before .before .before .before .before .before .before .args in
-    let p = c .before .before .before .before .before .before .before .before .before .before .pre .0 in
+    let s = c .before .before .before .before .before .before .before .before .before .before .before in
+    let a = s .args in
+    let g = c .before .before .before .before .before .before .gather-wide in
     c .before .before .interpolate .ensures ∙ painted-values (a .dstride) (a .dx) (a .dy) (a .w) (a .h) _ (windowBlock (formula (a .px) (a .py)) (a .plane .now) (a .width) (a .height) (a .bx) (a .by)) (a .dst .now)
-    (λ r k l m. gathered-sample (formula (a .px) (a .py)) (a .plane .now) (c .before .before .before .before .before .before .gather .last .0) (replicate 289 0) (a .width) (a .height) (a .bx) (a .by) (a .w) (a .h) r k (c .before .before .before .before .before .before .gather .ensures) (window-inside (p .0)) l m)
+    (λ r k l m. wide-sample (formula (a .px) (a .py)) (a .plane .now) (g .last .0) (a .width) (a .height) (a .bx) (a .by) (g .result) (a .h) r k (g .ensures .1) l (omega arith))
+
+returns-2 : tie.Need-returns-2
+returns-2 c =
+    let s = c .before .before .before .before .before .before .before .before .before .before .before in
+    let a = s .args in
+    let g = c .before .before .before .before .before .before .gather in
+    c .before .before .interpolate2 .ensures ∙ painted-values (a .dstride) (a .dx) (a .dy) (a .w) (a .h) _ (windowBlock (formula (a .px) (a .py)) (a .plane .now) (a .width) (a .height) (a .bx) (a .by)) (a .dst .now)
+    (λ r k l m. gathered-sample (formula (a .px) (a .py)) (a .plane .now) (g .last .0) (replicate 289 0) (a .width) (a .height) (a .bx) (a .by) (a .w) (a .h) r k (g .ensures) (window-inside (s .pre .0 .0)) l m)
 
 pub across-edge-spec : {M : Type 1} → statement M
 across-edge-spec =
@@ -33,10 +50,17 @@ across-edge-spec =
     (tie.spec
     (λ c. search needs)
     (λ c. search needs)
+    (λ c κs. search needs)
+    (λ c. search needs)
+    interpolate-requires
+    (λ c. search needs)
+    (λ c. search needs)
     (λ c. search needs)
     gather-requires
     (λ c. search needs)
     (λ c. search needs)
-    interpolate-requires
+    interpolate-requires-2
     (λ c. search needs)
-    returns)
+    returns
+    (λ c. search needs)
+    returns-2)
