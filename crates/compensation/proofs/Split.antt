@@ -1,13 +1,17 @@
--- A vector raised by a multiple of six, so that it is not below 0: its quotient and remainder are those of rounding down.
+-- A vector raised by a multiple of six, so that it is not below 0: its quotient and remainder are those of rounding down. And a block's place moved by the quotient.
 -- Assumes nothing.
 use mathlib.Core.Path.{_≡_, sym, ap, _∙_}
 use Prim.Native.Nat.{ℕ, _+_, _*_, _-_, _/_, _%_, _<_}
 use native.Mathlib.Omega.{arith}
 use lib.IntN.{ℤ, pos, natAbs, _+ℤ_, _-ℤ_}
 use lib.Signed.{mag, pos-natAbs}
+use mir.Syntax.{w32, w64}
+use mir.Val.{SFits}
 use Rattle.ints.specs.Z.{floorZ, modZ}
 use Rattle.ints.proofs.Linear.{z-rules, add-z, diff-z, mag-z}
 use Rattle.ints.proofs.Laws.{floor-shift}
+use Rattle.ints.proofs.Fits.{read, signed}
+use Rattle.ints.proofs.Same.{reads}
 
 module _ (z : ℤ) (small : mag z < 2147483648) where
   abbrev pub raised : ℕ
@@ -33,3 +37,14 @@ module _ (z : ℤ) (small : mag z < 2147483648) where
   raised-phase =
       let e : raised % 6 ≡ modZ z 6 = ap (λ v. modZ v 6) (sym shifted) ∙ floor-shift 6 (pos 1073741824) z (omega arith) .1 in
       omega arith
+
+-- two numbers of 32 bits, added in 64
+module _ (x z : ℤ) (p : SFits w32 x) (q : SFits w32 z) where
+  abbrev pub summed : ℤ
+  summed = read w64 (read w32 x) +ℤ read w64 (read w32 z)
+
+  pub summed-fits : SFits w64 summed
+  summed-fits = search signed depth 20
+
+  pub summed-is : read w64 summed ≡ x +ℤ z
+  summed-is = search reads depth 20

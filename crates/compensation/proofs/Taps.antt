@@ -6,25 +6,26 @@ use mathlib.Core.Logic.{_⊎_, inl, inr, ⊎-elim}
 use Prim.Native.Nat.{ℕ, zero, suc, _+_, _-_, _*_, _≤_, _<_, min}
 use native.Mathlib.Nat.{add-mul, mul-comm, mul-le-mul-right, zero-add, add-zero}
 use native.Mathlib.Omega.{arith}
-use borrow.Author.Tests.{ne-eqb, leb-true}
-use lib.Dec.{leb}
+use borrow.Author.Tests.{ne-eqb}
 use mathlib.Core.Bool.{true}
-use lib.IntN.{ℤ, pos, negsuc, natAbs, _+ℤ_}
-use lib.Signed.{pos-natAbs}
+use lib.IntN.{ℤ, pos, negsuc, natAbs, _+ℤ_, _-ℤ_}
+use lib.Signed.{pos-natAbs, leZ}
 use lib.ListN.{length, getD, replicate}
 use Rattle.picture.specs.Painted.{Inside, painted}
 use Rattle.picture.specs.Rows.{row}
-use Rattle.picture.proofs.Laws.{more, row-same, painted-same, painted-values}
+use Rattle.picture.proofs.Laws.{more, row-same, painted-same, painted-values, both-true}
 use Rattle.ints.specs.Z.{if_then_else_, clampZ, floorZ, modZ}
-use Rattle.ints.proofs.Fits.{sub-ind, clamp-ind}
-use Rattle.ints.proofs.Linear.{z-rules, add-z, abs-z, mag-z}
+use mir.Syntax.{w64}
+use mir.Facts.{toZ-ofZ}
+use Rattle.ints.proofs.Fits.{read, sub-ind, clamp-ind}
+use Rattle.ints.proofs.Linear.{z-rules, add-z, diff-z, abs-z, mag-z}
 use Rattle.ints.proofs.Laws.{clamp-low, floor-shift}
 use Rattle.compensation.specs.Sample.{nearest, tap, sampleAt, sixths, blockSample}
 use Rattle.compensation.specs.Formula.{along, formula}
 use Rattle.compensation.specs.Block.{Whole, Span}
-use Rattle.compensation.specs.Taps.{Placed, TapsIn}
+use Rattle.compensation.specs.Taps.{Placed, TapsIn, liesIn}
 use Rattle.compensation.specs.declared.svq3_mc.Taps.{Taps}
-use Rattle.compensation.proofs.Sides.{four-true, line-small}
+use Rattle.compensation.proofs.Sides.{line-small}
 use Rattle.compensation.specs.Kernel.{originOf, near, nearFrom, picked, pickedAt, lineAt, windowAt, windowBlock, fourAt, fourRow, fourBlock, extra}
 
 -- ---- places before and past a line of n
@@ -107,12 +108,12 @@ window-sample plane width height x y vx vy r c lr lc =
     let b′ = second height y vy r lr in
     λ i. formula (phase width x vx c i) (phase height y vy r i) (at (b i) (a i)) (at (b i) (a′ i)) (at (b′ i) (a i)) (at (b′ i) (a′ i))
 
-pub placed-sample : (plane : List ℕ) {width height : ℕ} {x y vx vy : ℤ} {bx by px py : ℕ} → Placed width height x y vx vy bx by px py → (r c : ℕ) → r < 16 → c < 16 → windowBlock (formula px py) plane width height bx by r c ≡ blockSample plane width height x y vx vy r c
-placed-sample plane {width} {height} {x} {y} {vx} {vy} p r c lr lc = rw (p .across-phase, p .down-phase, p .across, p .down) (window-sample plane width height x y vx vy r c lr lc)
+pub placed-sample : (plane : List ℕ) (width height : ℕ) {x y vx vy ox oy : ℤ} {px py : ℕ} → Placed x y vx vy ox oy px py → (r c : ℕ) → r < 16 → c < 16 → windowBlock (formula px py) plane width height (originOf width ox) (originOf height oy) r c ≡ blockSample plane width height x y vx vy r c
+placed-sample plane width height {x} {y} {vx} {vy} p r c lr lc = rw (p .across-phase, p .down-phase, p .across, p .down) (window-sample plane width height x y vx vy r c lr lc)
 
-pub placed-block : (plane : List ℕ) {width height : ℕ} {x y vx vy : ℤ} {bx by px py : ℕ} → Placed width height x y vx vy bx by px py → (stride dx dy w h : ℕ) (l : List ℕ) → Span w h
-    → painted stride dx dy w h (windowBlock (formula px py) plane width height bx by) l ≡ painted stride dx dy w h (blockSample plane width height x y vx vy) l
-placed-block plane p stride dx dy w h l s = painted-values stride dx dy w h _ _ l (λ r c lr lc. placed-sample plane p r c (omega arith) (omega arith))
+pub placed-block : (plane : List ℕ) (width height : ℕ) {x y vx vy ox oy : ℤ} {px py : ℕ} → Placed x y vx vy ox oy px py → (stride dx dy w h : ℕ) (l : List ℕ) → Span w h
+    → painted stride dx dy w h (windowBlock (formula px py) plane width height (originOf width ox) (originOf height oy)) l ≡ painted stride dx dy w h (blockSample plane width height x y vx vy) l
+placed-block plane width height p stride dx dy w h l s = painted-values stride dx dy w h _ _ l (λ r c lr lc. placed-sample plane width height p r c (omega arith) (omega arith))
 
 -- ---- whole samples alone read one tap each
 pub extra-none : extra 0 0 ≡ 0
@@ -192,55 +193,93 @@ gathered-sample f plane window l width height bx by w h r c e i lr lc =
     (λ r′ c′ k k′. rw (e, zero-add) (simp (zero-add, add-zero) at (painted-same (windowAt plane width height bx by) l r′ c′ 0 i (omega arith) (omega arith))))
 
 -- ---- the plane itself
-module _ (plane : List ℕ) (width height bx by : ℕ) (left : 17 ≤ bx) (top : 17 ≤ by) where
-  inside-tap : (r c : ℕ) → by + r < height + 17 → bx + c < width + 17 → getD plane ((by - 17) * width + (bx - 17) + r * width + c) 0 ≡ windowAt plane width height bx by r c
+module _ (plane : List ℕ) (width height a b : ℕ) where
+  inside-tap : (r c : ℕ) → b + r < height → a + c < width → getD plane (b * width + a + r * width + c) 0 ≡ windowAt plane width height (a + 17) (b + 17) r c
   unfolding windowAt lineAt near
   inside-tap r c lr lc =
-      let a : min (bx + c - 17) (width - 1) ≡ bx - 17 + c = omega arith in
-      let b : min (by + r - 17) (height - 1) ≡ by - 17 + r = omega arith in
-      let i : (by - 17) * width + (bx - 17) + r * width + c ≡ (by - 17 + r) * width + (bx - 17 + c) = omega (arith, add-mul (by - 17) r width) in
-      rw (a, b, i)
+      let e : min (a + 17 + c - 17) (width - 1) ≡ a + c = omega arith in
+      let f : min (b + 17 + r - 17) (height - 1) ≡ b + r = omega arith in
+      let i : b * width + a + r * width + c ≡ (b + r) * width + (a + c) = omega (arith, add-mul b r width) in
+      rw (e, f, i)
 
   -- the last tap is there
-  pub inside-room : (w h e : ℕ) → Whole width height (length plane) → 0 < h → by + h + e ≤ height + 17 → bx + w + e ≤ width + 17 → (by - 17) * width + (bx - 17) + (h - 1 + e) * width + w + e ≤ length plane
+  pub inside-room : (w h e : ℕ) → Whole width height (length plane) → 0 < h → b + (h + e) ≤ height → a + (w + e) ≤ width → b * width + a + (h - 1 + e) * width + w + e ≤ length plane
   inside-room w h e full some k k′ =
-      let last : (by - 17 + (h - 1 + e)) * width + width ≤ height * width = more width (omega arith) in
-      omega (arith, add-mul (by - 17) (h - 1 + e) width, mul-comm height width)
+      let last : (b + (h - 1 + e)) * width + width ≤ height * width = more width (omega arith) in
+      omega (arith, add-mul b (h - 1 + e) width, mul-comm height width)
 
   -- no phase: one tap a sample
-  inside-whole : (r c : ℕ) → by + r < height + 17 → bx + c < width + 17 → fourBlock (formula 0 0) plane width ((by - 17) * width + (bx - 17)) r c ≡ windowBlock (formula 0 0) plane width height bx by r c
+  inside-whole : (r c : ℕ) → b + r < height → a + c < width → fourBlock (formula 0 0) plane width (b * width + a) r c ≡ windowBlock (formula 0 0) plane width height (a + 17) (b + 17) r c
   unfolding fourBlock fourRow fourAt windowBlock formula along if_then_else_
   inside-whole r c lr lc = inside-tap r c lr lc
 
-  pub inside-sample : (px py r c w h : ℕ) → by + h + extra px py ≤ height + 17 → bx + w + extra px py ≤ width + 17 → r < h → c < w
-      → fourBlock (formula px py) plane width ((by - 17) * width + (bx - 17)) r c ≡ windowBlock (formula px py) plane width height bx by r c
+  pub inside-sample : (px py r c w h : ℕ) → b + (h + extra px py) ≤ height → a + (w + extra px py) ≤ width → r < h → c < w
+      → fourBlock (formula px py) plane width (b * width + a) r c ≡ windowBlock (formula px py) plane width height (a + 17) (b + 17) r c
   unfolding windowBlock
   inside-sample px py r c w h k k′ lr lc =
       ⊎-elim
       (λ e. rw (e .0, e .1) (inside-whole r c (omega arith) (omega arith)))
-      (λ e. four-taps (formula px py) plane width ((by - 17) * width + (bx - 17)) (windowAt plane width height bx by) r c (λ r′ c′ l l′. inside-tap r′ c′ (omega arith) (omega arith)))
+      (λ e. four-taps (formula px py) plane width (b * width + a) (windowAt plane width height (a + 17) (b + 17)) r c (λ r′ c′ l l′. inside-tap r′ c′ (omega arith) (omega arith)))
       (extra-or px py)
 
+-- ---- a place that lies in a line, as the machine reads it
+module _ (o : ℤ) (n side : ℕ) (small : side ≤ 65536) (e : liesIn o n side ≡ true) where
+  abbrev placed-at : ℕ
+  placed-at = natAbs (read w64 o)
+
+  one : (o ≡ pos (natAbs o)) × (natAbs o + n ≤ side)
+  unfolding liesIn
+  one =
+      let p = both-true (leZ (pos 0) o) (leZ o (pos side -ℤ pos n)) e in
+      (omega (arith, z-rules, p .0, abs-z o, mag-z o), omega (arith, z-rules, p .0, p .1, abs-z o, mag-z o, diff-z (pos side) (pos n)))
+
+  same : read w64 o ≡ o
+  same = toZ-ofZ (record { sfits = rw (one .0) (omega (arith, one .1)) })
+
+  pub lies-read : read w64 o ≡ pos placed-at
+  lies-read = same ∙ one .0 ∙ ap (λ (z : ℤ). pos (natAbs z)) (sym same)
+
+  pub lies-room : placed-at + n ≤ side
+  lies-room = rw same (one .1)
+
+  -- it is not held
+  pub lies-origin : 0 < n → originOf side o ≡ placed-at + 17
+  lies-origin some = ap (originOf side) (sym same ∙ lies-read) ∙ origin-pos side placed-at ∙ omega (arith, lies-room)
+
 -- ---- a block that says that its taps lie inside
-module _ {width height w h : ℕ} (t : Taps) (p : TapsIn width height w h t) (e : t .inside ≡ true) where
+module _ {width height w h size : ℕ} (t : Taps) (full : Whole width height size) (s : Span w h) (p : TapsIn width height w h t) (e : t .inside ≡ true) where
   abbrev more-taps : ℕ
   more-taps = extra (t .px) (t .py)
 
-  abbrev start : ℕ
-  start = (t .by - 17) * width + (t .bx - 17)
+  abbrev column : ℕ
+  column = natAbs (read w64 (t .ox))
 
-  pub taps-lie : (17 ≤ t .bx) × (t .bx + w + more-taps ≤ width + 17) × (17 ≤ t .by) × (t .by + h + more-taps ≤ height + 17)
-  taps-lie =
-      let f = four-true (leb 17 (t .bx)) (leb (t .bx + w + more-taps) (width + 17)) (leb 17 (t .by)) (leb (t .by + h + more-taps) (height + 17)) (sym (p .whether) ∙ e) in
-      (leb-true 17 (t .bx) (f .0), leb-true (t .bx + w + more-taps) (width + 17) (f .1), leb-true 17 (t .by) (f .2), leb-true (t .by + h + more-taps) (height + 17) (f .3))
+  abbrev line : ℕ
+  line = natAbs (read w64 (t .oy))
 
-  pub taps-start : {size : ℕ} → Whole width height size → ((t .by - 17) * width ≤ 4294967296) × (t .bx ≤ 65552)
-  taps-start full = (line-small {line = t .by - 17} full (omega (arith, taps-lie, p .near)), omega (arith, p .near, full .columns))
+  both : (liesIn (t .ox) (w + more-taps) width ≡ true) × (liesIn (t .oy) (h + more-taps) height ≡ true)
+  both = both-true _ _ (sym (p .whether) ∙ e)
 
-  pub taps-room : (plane : List ℕ) → Whole width height (length plane) → Span w h → start + (h - 1 + more-taps) * width + w + more-taps ≤ length plane
-  taps-room plane full s = let l = taps-lie in inside-room plane width height (t .bx) (t .by) (l .0) (l .2) w h more-taps full (s .down .0) (l .3) (l .1)
+  pub taps-column : (read w64 (t .ox) ≡ pos column) × (column + (w + more-taps) ≤ width) × (originOf width (t .ox) ≡ column + 17)
+  taps-column =
+      let k = full .columns .1 in
+      let l = both .0 in
+      (lies-read (t .ox) (w + more-taps) width k l, lies-room (t .ox) (w + more-taps) width k l, lies-origin (t .ox) (w + more-taps) width k l (omega arith))
 
-  pub taps-block : (plane : List ℕ) (s dx dy : ℕ) (l : List ℕ) → painted s dx dy w h (fourBlock (formula (t .px) (t .py)) plane width start) l ≡ painted s dx dy w h (windowBlock (formula (t .px) (t .py)) plane width height (t .bx) (t .by)) l
-  taps-block plane s dx dy l =
-      let i = taps-lie in
-      painted-values s dx dy w h _ _ l (λ r c lr lc. inside-sample plane width height (t .bx) (t .by) (i .0) (i .2) (t .px) (t .py) r c w h (i .3) (i .1) lr lc)
+  pub taps-line : (read w64 (t .oy) ≡ pos line) × (line + (h + more-taps) ≤ height) × (originOf height (t .oy) ≡ line + 17)
+  taps-line =
+      let k = full .lines .1 in
+      let l = both .1 in
+      (lies-read (t .oy) (h + more-taps) height k l, lies-room (t .oy) (h + more-taps) height k l, lies-origin (t .oy) (h + more-taps) height k l (omega arith))
+
+  pub taps-start : (line * width ≤ 4294967296) × (line ≤ 65536) × (column ≤ 65536)
+  taps-start = (line-small {line = line} full (omega (arith, taps-line .1)), omega (arith, taps-line .1), omega (arith, taps-column .1))
+
+  pub taps-room : (plane : List ℕ) → Whole width height (length plane) → line * width + column + (h - 1 + more-taps) * width + w + more-taps ≤ length plane
+  taps-room plane whole = inside-room plane width height column line w h more-taps whole (s .down .0) (taps-line .1) (taps-column .1)
+
+  pub taps-block : (plane : List ℕ) (stride dx dy : ℕ) (l : List ℕ)
+      → painted stride dx dy w h (fourBlock (formula (t .px) (t .py)) plane width (line * width + column)) l ≡ painted stride dx dy w h (windowBlock (formula (t .px) (t .py)) plane width height (originOf width (t .ox)) (originOf height (t .oy))) l
+  taps-block plane stride dx dy l =
+      painted-values stride dx dy w h _ _ l
+      (λ r c lr lc. rw (taps-column .2, taps-line .2) (inside-sample plane width height column line (t .px) (t .py) r c w h (taps-line .1) (taps-column .1) lr lc))

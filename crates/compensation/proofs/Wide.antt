@@ -1,6 +1,6 @@
 -- Rows of 34 places, 17 of them stored at once: what a store leaves, and what a block across an edge reads in them.
 -- Assumes nothing.
-use mathlib.Core.Path.{_≡_, sym, ap, _∙_}
+use mathlib.Core.Path.{_≡_, ap, _∙_}
 use mathlib.Core.Logic.{⊎-elim}
 use mathlib.Core.List.{List}
 use Prim.Native.Nat.{ℕ, _+_, _-_, _*_, _≤_, _<_}

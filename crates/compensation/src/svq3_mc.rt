@@ -6,8 +6,8 @@ ghost use Rattle.ints.specs.Z.{floorZ, modZ};
 ghost use Rattle.picture.specs.Painted.{Inside, painted};
 ghost use Rattle.compensation.specs.Formula.{formula};
 ghost use Rattle.compensation.specs.Sample.{blockSample};
-ghost use Rattle.compensation.specs.Kernel.{windowBlock};
-ghost use Rattle.compensation.specs.Taps.{Placed, TapsIn};
+ghost use Rattle.compensation.specs.Kernel.{originOf, windowBlock};
+ghost use Rattle.compensation.specs.Taps.{Placed, TapsIn, liesIn};
 ghost use Rattle.compensation.specs.Block.{Whole, Span, sidesFit, blockAnswer, blockOut, halved};
 use crate::kernel::extra_of;
 use crate::tiles::interpolate;
@@ -46,15 +46,17 @@ fn across_edge(
     h: usize,
     width: usize,
     height: usize,
-    bx: usize,
-    by: usize,
+    ox: i64,
+    oy: i64,
     px: u32,
     py: u32,
 )
     requires { ⌜ Span w h × Inside dstride dx dy w h (length (now dst)) × (px < 6) × (py < 6) ⌝ }
-    requires { ⌜ Whole width height (length (now plane)) × (bx ≤ width + 16) × (by ≤ height + 16) ⌝ }
-    ensures { λ _. ⌜ now (dst .exit) ≡ painted dstride dx dy w h (windowBlock (formula px py) (now (plane .entry)) width height bx by) (now (dst .entry)) ⌝ }
+    requires { ⌜ Whole width height (length (now plane)) ⌝ }
+    ensures { λ _. ⌜ now (dst .exit) ≡ painted dstride dx dy w h (windowBlock (formula px py) (now (plane .entry)) width height (originOf width ox) (originOf height oy)) (now (dst .entry)) ⌝ }
 {
+    let bx = origin(ox, width);
+    let by = origin(oy, height);
     if 17 <= width {
         let mut window = [0u8; 578];
         let from = gather_wide(&mut window, plane, width, height, bx, by, h + 1);
@@ -66,13 +68,21 @@ fn across_edge(
     }
 }
 
-// How a block reads its taps: the phases, where its first tap lies as `origin` counts, and whether all lie inside the plane.
+// How a block reads its taps: the phases, where its first tap lies, and whether all lie inside the plane.
 pub struct Taps {
     pub px: u32,
     pub py: u32,
-    pub bx: usize,
-    pub by: usize,
+    pub ox: i64,
+    pub oy: i64,
     pub inside: bool,
+}
+
+// Whether the n places from `first` on lie in a line of `side`.
+fn lies_in(first: i64, n: usize, side: usize) -> bool
+    requires { ⌜ (n ≤ 17) × (side ≤ 65536) ⌝ }
+    ensures { λ r. ⌜ r ≡ liesIn first n side ⌝ }
+{
+    (0 <= first) & (first <= (side as i64) - (n as i64))
 }
 
 // The taps of the w × h block at (x, y) of a plane with the vector (vx, vy).
@@ -87,22 +97,22 @@ pub fn taps_of(
     vy: i32,
 ) -> Taps
     requires { ⌜ Span w h × (0 < width) × (width ≤ 65536) × (0 < height) × (height ≤ 65536) ⌝ }
-    ensures { λ r. ⌜ Placed width height x y vx vy (r .bx) (r .by) (r .px) (r .py) ⌝ }
+    ensures { λ r. ⌜ Placed x y vx vy (r .ox) (r .oy) (r .px) (r .py) ⌝ }
     ensures { λ r. ⌜ TapsIn width height w h r ⌝ }
 {
     let sx = split_mv_component(vx);
     let sy = split_mv_component(vy);
     let px = sx.phase;
     let py = sy.phase;
-    let bx = origin(x, sx.whole, width);
-    let by = origin(y, sy.whole, height);
+    let ox = (x as i64) + (sx.whole as i64);
+    let oy = (y as i64) + (sy.whole as i64);
     let e = extra_of(px, py);
-    let inside = (17 <= bx) & (bx + w + e <= width + 17) & (17 <= by) & (by + h + e <= height + 17);
+    let inside = lies_in(ox, w + e, width) & lies_in(oy, h + e, height);
     Taps {
         px,
         py,
-        bx,
-        by,
+        ox,
+        oy,
         inside,
     }
 }
@@ -121,14 +131,14 @@ pub fn compensate_taps(
     t: Taps,
 )
     requires { ⌜ Span w h × Inside dstride dx dy w h (length (now dst)) × Whole width height (length (now plane)) × TapsIn width height w h t ⌝ }
-    ensures { λ _. ⌜ now (dst .exit) ≡ painted dstride dx dy w h (windowBlock (formula (t .px) (t .py)) (now (plane .entry)) width height (t .bx) (t .by)) (now (dst .entry)) ⌝ }
+    ensures { λ _. ⌜ now (dst .exit) ≡ painted dstride dx dy w h (windowBlock (formula (t .px) (t .py)) (now (plane .entry)) width height (originOf width (t .ox)) (originOf height (t .oy))) (now (dst .entry)) ⌝ }
 {
     let px = t.px;
     let py = t.py;
-    let bx = t.bx;
-    let by = t.by;
+    let ox = t.ox;
+    let oy = t.oy;
     if t.inside {
-        let from = (by - 17) * width + (bx - 17);
+        let from = (oy as usize) * width + (ox as usize);
         interpolate(dst, plane, dstride, dx, dy, w, h, width, from, px, py);
     } else {
         across_edge(
@@ -141,8 +151,8 @@ pub fn compensate_taps(
             h,
             width,
             height,
-            bx,
-            by,
+            ox,
+            oy,
             px,
             py,
         );
@@ -165,19 +175,19 @@ pub fn compensate_both(
 )
     requires { ⌜ Span w h × Inside width dx dy w h (length (now cb)) × Inside width dx dy w h (length (now cr)) ⌝ }
     requires { ⌜ Whole width height (length (now rcb)) × Whole width height (length (now rcr)) × TapsIn width height w h t ⌝ }
-    ensures { λ _. ⌜ now (cb .exit) ≡ painted width dx dy w h (windowBlock (formula (t .px) (t .py)) (now (rcb .entry)) width height (t .bx) (t .by)) (now (cb .entry)) ⌝ }
-    ensures { λ _. ⌜ now (cr .exit) ≡ painted width dx dy w h (windowBlock (formula (t .px) (t .py)) (now (rcr .entry)) width height (t .bx) (t .by)) (now (cr .entry)) ⌝ }
+    ensures { λ _. ⌜ now (cb .exit) ≡ painted width dx dy w h (windowBlock (formula (t .px) (t .py)) (now (rcb .entry)) width height (originOf width (t .ox)) (originOf height (t .oy))) (now (cb .entry)) ⌝ }
+    ensures { λ _. ⌜ now (cr .exit) ≡ painted width dx dy w h (windowBlock (formula (t .px) (t .py)) (now (rcr .entry)) width height (originOf width (t .ox)) (originOf height (t .oy))) (now (cr .entry)) ⌝ }
 {
     let px = t.px;
     let py = t.py;
-    let bx = t.bx;
-    let by = t.by;
+    let ox = t.ox;
+    let oy = t.oy;
     if t.inside {
-        let from = (by - 17) * width + (bx - 17);
+        let from = (oy as usize) * width + (ox as usize);
         interpolate_pair(cb, cr, rcb, rcr, width, dx, dy, w, h, from, px, py);
     } else {
-        across_edge(cb, rcb, width, dx, dy, w, h, width, height, bx, by, px, py);
-        across_edge(cr, rcr, width, dx, dy, w, h, width, height, bx, by, px, py);
+        across_edge(cb, rcb, width, dx, dy, w, h, width, height, ox, oy, px, py);
+        across_edge(cr, rcr, width, dx, dy, w, h, width, height, ox, oy, px, py);
     }
 }
 

@@ -1,7 +1,6 @@
 // The taps of a block: where the first lies, and, for a block across an edge, all of them by rows, edges repeated.
 ghost use mathlib.Core.Path.{_≡_};
 ghost use Prim.Native.Nat.{ℕ, _+_, _-_, _*_, _%_, _<_, _≤_};
-ghost use lib.IntN.{_+ℤ_};
 ghost use lib.ListN.{length, getD, replicate};
 ghost use Rattle.picture.specs.Painted.{Inside, painted};
 ghost use Rattle.picture.specs.Rows.{row, run};
@@ -10,13 +9,13 @@ ghost use Rattle.compensation.specs.Block.{Whole};
 use ints::clamp_i64;
 use picture::rows::store_row;
 
-// The column, or row, of a block's first tap.
-pub fn origin(place: i32, whole: i32, n: usize) -> usize
+// The column, or row, of a block's first tap, held and counted from -17.
+pub fn origin(first: i64, n: usize) -> usize
     requires { ⌜ (0 < n) × (n ≤ 65536) ⌝ }
-    ensures { λ r. ⌜ r ≡ originOf n (place +ℤ whole) ⌝ }
+    ensures { λ r. ⌜ r ≡ originOf n first ⌝ }
 {
     let last = (n - 1) as i64;
-    let o = clamp_i64((place as i64) + (whole as i64), -17, last);
+    let o = clamp_i64(first, -17, last);
     (o + 17) as usize
 }
 

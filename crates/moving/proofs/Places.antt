@@ -105,19 +105,19 @@ module _ {chroma : Bool} {call : Call} {i n x y w h : ℕ} (p : Placed chroma ca
   moved ref vs pic q ex ey e f = q ∙ rw (ex, ey, e, f, p .n-is, p .x-is, p .y-is, p .w-is, p .h-is)
 
   -- the same, by the taps that it read
-  pub moved-taps : (ref : List ℕ) (vs : List ℤ) (pic : List ℕ) {pic′ : List ℕ} {bx by px py : ℕ} → Span w h
-      → taps.Placed (n * cols) (n * rows) (pos x) (pos y) (towardZero (getD vs (2 * i) (pos 0)) (unit chroma)) (towardZero (getD vs (2 * i + 1) (pos 0)) (unit chroma)) bx by px py
-      → pic′ ≡ painted (n * cols) x y w h (windowBlock (formula px py) ref (n * cols) (n * rows) bx by) pic
+  pub moved-taps : (ref : List ℕ) (vs : List ℤ) (pic : List ℕ) {pic′ : List ℕ} {ox oy : ℤ} {px py : ℕ} → Span w h
+      → taps.Placed (pos x) (pos y) (towardZero (getD vs (2 * i) (pos 0)) (unit chroma)) (towardZero (getD vs (2 * i + 1) (pos 0)) (unit chroma)) ox oy px py
+      → pic′ ≡ painted (n * cols) x y w h (windowBlock (formula px py) ref (n * cols) (n * rows) (originOf (n * cols) ox) (originOf (n * rows) oy)) pic
       → pic′ ≡ movedOnce (unit chroma) cols rows ref call vs i pic
-  moved-taps ref vs pic s t q = moved ref vs pic (q ∙ placed-block ref t (n * cols) x y w h pic s) refl refl refl refl
+  moved-taps ref vs pic s t q = moved ref vs pic (q ∙ placed-block ref (n * cols) (n * rows) t (n * cols) x y w h pic s) refl refl refl refl
 
 -- taps of the same block
-pub placed-as : {W H W′ H′ bx by px py : ℕ} {x y vx vy x′ y′ vx′ vy′ : ℤ} → taps.Placed W H x y vx vy bx by px py → W ≡ W′ → H ≡ H′ → x ≡ x′ → y ≡ y′ → vx ≡ vx′ → vy ≡ vy′ → taps.Placed W′ H′ x′ y′ vx′ vy′ bx by px py
-placed-as p eW eH ex ey evx evy = record {
+pub placed-as : {px py : ℕ} {x y vx vy ox oy x′ y′ vx′ vy′ : ℤ} → taps.Placed x y vx vy ox oy px py → x ≡ x′ → y ≡ y′ → vx ≡ vx′ → vy ≡ vy′ → taps.Placed x′ y′ vx′ vy′ ox oy px py
+placed-as p ex ey evx evy = record {
   across-phase = p .across-phase ∙ ap (λ z. modZ z 6) evx;
   down-phase = p .down-phase ∙ ap (λ z. modZ z 6) evy;
-  across = p .across ∙ (λ i. originOf (eW i) (ex i +ℤ floorZ (evx i) 6));
-  down = p .down ∙ (λ i. originOf (eH i) (ey i +ℤ floorZ (evy i) 6));
+  across = p .across ∙ (λ i. ex i +ℤ floorZ (evx i) 6);
+  down = p .down ∙ (λ i. ey i +ℤ floorZ (evy i) 6);
 }
 
 -- at most 16 samples a macroblock

@@ -64,7 +64,7 @@ fn part_of(call: Call, chroma: bool, i: usize) -> Part
 fn taps_in(vectors: &[i32], cols: usize, rows: usize, chroma: bool, p: Part, i: usize) -> Taps
     requires { ⌜ (0 < cols) × (cols ≤ 4096) × (0 < rows) × (rows ≤ 4096) × (i < 16) × (length (now vectors) ≡ 32) ⌝ }
     requires { ⌜ Span (p .w) (p .h) × (p .x < 131072) × (p .y < 131072) ⌝ }
-    ensures { λ r. ⌜ Placed (16 / unit chroma * cols) (16 / unit chroma * rows) (pos (p .x)) (pos (p .y)) (towardZero (vectorX (now (vectors .entry)) i) (unit chroma)) (towardZero (vectorY (now (vectors .entry)) i) (unit chroma)) (r .bx) (r .by) (r .px) (r .py) ⌝ }
+    ensures { λ r. ⌜ Placed (pos (p .x)) (pos (p .y)) (towardZero (vectorX (now (vectors .entry)) i) (unit chroma)) (towardZero (vectorY (now (vectors .entry)) i) (unit chroma)) (r .ox) (r .oy) (r .px) (r .py) ⌝ }
     ensures { λ r. ⌜ TapsIn (16 / unit chroma * cols) (16 / unit chroma * rows) (p .w) (p .h) r ⌝ }
 {
     let side = over(chroma, 16);

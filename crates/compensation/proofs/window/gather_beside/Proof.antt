@@ -1,6 +1,6 @@
 -- `compensation::window::gather_beside` meets its contract: one row a turn, in two halves that lie apart.
 use mathlib.Core.Path.{_≡_, refl, _∙_}
-use Prim.Native.Nat.{ℕ, _≤_, _+_, _-_, _*_, _<_}
+use Prim.Native.Nat.{ℕ, _≤_, _+_, _-_, _*_}
 use native.Mathlib.Omega.{arith}
 use lib.ListN.{length, getD}
 use Rattle.picture.specs.Rows.{run}

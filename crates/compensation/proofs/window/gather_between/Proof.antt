@@ -1,6 +1,6 @@
 -- `compensation::window::gather_between` meets its contract: one row a turn.
 use mathlib.Core.Path.{_≡_, refl, _∙_}
-use Prim.Native.Nat.{_≤_, _+_, _-_, _*_, _<_}
+use Prim.Native.Nat.{_≤_, _+_, _-_, _*_}
 use native.Mathlib.Omega.{arith}
 use lib.ListN.{length}
 use Rattle.picture.specs.Rows.{run}

@@ -1,6 +1,6 @@
 -- `moving::svq3_frame::taps_in` meets its contract: place, spans and vector are those of the plane.
 use mathlib.Core.Path.{_≡_, refl, _∙_, ap}
-use Prim.Native.Nat.{ℕ, _+_, _*_, _/_}
+use Prim.Native.Nat.{_+_, _*_, _/_}
 use native.Mathlib.Nat.{le-trans}
 use native.Mathlib.Omega.{arith}
 use lib.Dec.{lit≤}
@@ -37,7 +37,7 @@ returns c =
     let n = c .before .before .before .before .before .before .before .over .ensures in
     let vx = back w32 (c .before .before .before .before .before .vector-over .ok) (c .before .before .before .before .before .vector-over .ensures ∙ ap (λ (z : ℤ). towardZero z (unit (a .chroma))) (back w32 {z = getD (a .vectors .now) (2 * a .i) (pos 0)} (c .before .before .before .before .before .before .vector-over-arg .given) refl)) in
     let vy = back w32 (c .before .before .before .vector-over2 .ok) (c .before .before .before .vector-over2 .ensures ∙ ap (λ (z : ℤ). towardZero z (unit (a .chroma))) (back w32 {z = getD (a .vectors .now) (2 * a .i + 1) (pos 0)} (c .before .before .before .before .vector-over-arg2 .given) refl)) in (
-      placed-as (c .taps-of .ensures .0) (ap (λ (m : ℕ). m * a .cols) n) (ap (λ (m : ℕ). m * a .rows) n) (toZ-ofZ (small-x s)) (toZ-ofZ (small-y s)) vx vy,
+      placed-as (c .taps-of .ensures .0) (toZ-ofZ (small-x s)) (toZ-ofZ (small-y s)) vx vy,
       rw (← n) (c .taps-of .ensures .1),
     )
 
