@@ -19,18 +19,18 @@ use ints::half_toward_zero;
 use refusal::Refusal;
 
 pub struct MvComponentSplit {
-    pub whole: i32,
+    pub whole: i64,
     pub phase: u32,
 }
 
-// Rounded down by one unsigned division: 6 · 2^30 is more than any vector is below 0.
+// Rounded down by one unsigned division: 6 · 357,913,942 is more than any vector is below 0.
 pub fn split_mv_component(v: i32) -> MvComponentSplit
     ensures { λ r. ⌜ (r .whole ≡ floorZ v 6) × (r .phase ≡ modZ v 6) ⌝ }
 {
-    let u = ((v as i64) + 0x1_8000_0000) as u64;
+    let u = ((v as i64) + 2_147_483_652) as u64;
     let q = u / 6;
     MvComponentSplit {
-        whole: ((q as i64) - 0x4000_0000) as i32,
+        whole: (q as i64) - 357_913_942,
         phase: (u - 6 * q) as u32,
     }
 }
@@ -104,8 +104,8 @@ pub fn taps_of(
     let sy = split_mv_component(vy);
     let px = sx.phase;
     let py = sy.phase;
-    let ox = (x as i64) + (sx.whole as i64);
-    let oy = (y as i64) + (sy.whole as i64);
+    let ox = (x as i64) + sx.whole;
+    let oy = (y as i64) + sy.whole;
     let e = extra_of(px, py);
     let inside = lies_in(ox, w + e, width) & lies_in(oy, h + e, height);
     Taps {

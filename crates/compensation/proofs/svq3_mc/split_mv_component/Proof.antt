@@ -17,9 +17,9 @@ use Rattle.compensation.proofs.svq3_mc.split_mv_component.Tie as tie
 
 -- the sum, as the machine holds it
 abbrev sum : tie.Start → ℕ
-sum c = natAbs (read w64 (read w64 (read w32 (c .args .v)) +ℤ pos 6442450944))
+sum c = natAbs (read w64 (read w64 (read w32 (c .args .v)) +ℤ pos 2147483652))
 
-sum-is : (c : tie.Start) → read w64 (read w64 (read w32 (c .args .v)) +ℤ pos 6442450944) ≡ pos (raised (c .args .v) (c .fits .v .sfits))
+sum-is : (c : tie.Start) → read w64 (read w64 (read w32 (c .args .v)) +ℤ pos 2147483652) ≡ pos (raised (c .args .v) (c .fits .v .sfits))
 sum-is c =
     let record { v = v } = c .fits in
     (search reads depth 20) ∙ raised-is (c .args .v) (c .fits .v .sfits)
@@ -27,26 +27,23 @@ sum-is c =
 same : (c : tie.Start) → sum c ≡ raised (c .args .v) (c .fits .v .sfits)
 same c = ap natAbs (sum-is c)
 
-whole : (c : tie.Start) → toZ w64 (sum c / 6) -ℤ pos 1073741824 ≡ floorZ (c .args .v) 6
+whole : (c : tie.Start) → toZ w64 (sum c / 6) -ℤ pos 357913942 ≡ floorZ (c .args .v) 6
 whole c =
     let s = c .fits .v .sfits in
     let n = raised (c .args .v) s in
     let p : toZ w64 (n / 6) ≡ pos (n / 6) = toZ-pos w64 (omega (arith, raised-small (c .args .v) s)) in
-    ap (λ (k : ℕ). toZ w64 (k / 6) -ℤ pos 1073741824) (same c) ∙ ap (λ z. z -ℤ pos 1073741824) p ∙ raised-whole (c .args .v) s
+    ap (λ (k : ℕ). toZ w64 (k / 6) -ℤ pos 357913942) (same c) ∙ ap (λ z. z -ℤ pos 357913942) p ∙ raised-whole (c .args .v) s
 
 sub-t5 : tie.Need-sub-t5
 sub-t5 c = subst (SFits w64) (sym (whole c)) (record { sfits = omega (arith, floor-fits 6 (c .fits .v)) })
 
-back-whole : (c : tie.Start) → read w64 (toZ w64 (sum c / 6) -ℤ pos 1073741824) ≡ floorZ (c .args .v) 6
+back-whole : (c : tie.Start) → read w64 (toZ w64 (sum c / 6) -ℤ pos 357913942) ≡ floorZ (c .args .v) 6
 back-whole c = back w64 (sub-t5 c .sfits) (whole c)
-
-cast-t6 : tie.Need-cast-t6
-cast-t6 c = subst (SFits w32) (sym (back-whole c)) (floor-fits 6 (c .fits .v))
 
 returns : tie.Need-returns
 returns c =
     let s = c .fits .v .sfits in
-    (back w32 (cast-t6 c .sfits) (back-whole c), rw (same c) (raised-phase (c .args .v) s))
+    (back-whole c, rw (same c) (raised-phase (c .args .v) s))
 
 pub split-mv-component-spec : {M : Type 1} → statement M
 split-mv-component-spec =
@@ -57,7 +54,6 @@ split-mv-component-spec =
     (λ c. cast-unsigned w64 (sum-is c) (omega (arith, raised-small (c .args .v) (c .fits .v .sfits))))
     (λ c. record { sfits = omega (arith, same c, raised-small (c .args .v) (c .fits .v .sfits)) })
     sub-t5
-    cast-t6
     (λ c. record { fits = omega (arith, same c, raised-small (c .args .v) (c .fits .v .sfits)) })
     (λ c. search needs)
     (λ c. search needs)
