@@ -4,7 +4,7 @@ use mathlib.Core.Path.{_≡_, refl, sym, ap, _∙_}
 use mathlib.Core.List.{List}
 use mathlib.Core.Logic.{_⊎_, inl, inr, ⊎-elim}
 use Prim.Native.Nat.{ℕ, zero, suc, _+_, _-_, _*_, _≤_, _<_, min}
-use native.Mathlib.Nat.{add-mul, mul-comm, mul-le-mul-right, zero-add, add-zero}
+use native.Mathlib.Nat.{add-mul, mul-comm, zero-add, add-zero}
 use native.Mathlib.Omega.{arith}
 use borrow.Author.Tests.{ne-eqb}
 use mathlib.Core.Bool.{true}
@@ -140,12 +140,10 @@ pub extra-zero : (px py : ℕ) → extra px py ≡ 0 → (px ≡ 0) × (py ≡ 0
 extra-zero px py e = ⊎-elim (λ z. z) (λ o. absurd (omega arith)) (extra-or px py)
 
 -- samples that are mixed read a row and a column more
-pub mixed-room : {w h : ℕ} (px py stride from n : ℕ) → Span w h → extra px py ≡ 1 → from + (h - 1 + extra px py) * stride + w + extra px py ≤ n → (from + h * stride + w < n) × (stride < n)
+pub mixed-room : {w h : ℕ} (px py stride from n : ℕ) → Span w h → extra px py ≡ 1 → from + (h - 1 + extra px py) * stride + w + extra px py ≤ n → from + h * stride + w < n
 mixed-room {w} {h} px py stride from n s one le =
     let rows : h - 1 + 1 ≡ h = omega arith in
-    let room : from + h * stride + w + 1 ≤ n = rw (one, rows) at le in
-    let last : 1 * stride ≤ h * stride = mul-le-mul-right stride (s .down .0) in
-    (omega arith, omega arith)
+    let room : from + h * stride + w + 1 ≤ n = rw (one, rows) at le in omega arith
 
 -- ---- the taps as they are gathered: the columns are listed once
 columns-at : (width bx k : ℕ) → k < 17 → getD (row (replicate 17 0) 0 (nearFrom width bx) 17) k 0 ≡ near width (bx + k)

@@ -15,7 +15,7 @@ room c =
     let s = c .before .before .before .before in
     let a = s .args in
     let one : extra (a .px) (a .py) ≡ 1 = omega (arith, c .before .extra-of .ensures) in
-    mixed-room (a .px) (a .py) (a .stride) (a .from) (length (a .src .now)) (s .pre .0) one (s .pre .4) .0
+    mixed-room (a .px) (a .py) (a .stride) (a .from) (length (a .src .now)) (s .pre .0) one (s .pre .4)
 
 mix-of-requires : tie.Need-mix-of-requires
 mix-of-requires c κs = let s = c .before .before .before .before in (s .pre .2, s .pre .3)

@@ -14,10 +14,10 @@ one : (c : tie.Else1) → let a = c .before .before .before .before .before .bef
 one c = omega (arith, c .before .extra-of .ensures, c .if1 .left)
 
 cb-room : (c : tie.Else1) → let a = c .before .before .before .before .before .before .args in a .from + a .h * a .stride + a .w < length (a .rcb .now)
-cb-room c = let s = c .before .before .before .before .before .before in let a = s .args in mixed-room (a .px) (a .py) (a .stride) (a .from) (length (a .rcb .now)) (s .pre .0 .0) (one c) (s .pre .1 .0) .0
+cb-room c = let s = c .before .before .before .before .before .before in let a = s .args in mixed-room (a .px) (a .py) (a .stride) (a .from) (length (a .rcb .now)) (s .pre .0 .0) (one c) (s .pre .1 .0)
 
 cr-room : (c : tie.Else1) → let a = c .before .before .before .before .before .before .args in a .from + a .h * a .stride + a .w < length (a .rcr .now)
-cr-room c = let s = c .before .before .before .before .before .before in let a = s .args in mixed-room (a .px) (a .py) (a .stride) (a .from) (length (a .rcr .now)) (s .pre .0 .0) (one c) (s .pre .1 .1) .0
+cr-room c = let s = c .before .before .before .before .before .before in let a = s .args in mixed-room (a .px) (a .py) (a .stride) (a .from) (length (a .rcr .now)) (s .pre .0 .0) (one c) (s .pre .1 .1)
 
 mix-of-requires : tie.Need-mix-of-requires
 mix-of-requires c κs = let s = c .before .before .before .before .before .before in (s .pre .0 .3, s .pre .0 .4)
