@@ -2,7 +2,7 @@
 -- Assumes nothing.
 use mathlib.Core.Path.{_≡_}
 use mathlib.Core.Bool.{Bool, true, _&&_}
-use Prim.Native.Nat.{ℕ, _+_, _-_, _*_, _≤_, _<_}
+use Prim.Native.Nat.{ℕ, _*_, _≤_, _<_}
 use native.Mathlib.Nat.{mul-comm, mul-le-mul}
 use native.Mathlib.Omega.{arith}
 use lib.Dec.{leb, eqb}
@@ -38,20 +38,6 @@ pub line-small : {w h size line : ℕ} → Whole w h size → line < h → line 
 line-small {w} {h} {size} {line} p lt =
     let small : line ≤ 65536 = omega arith in
     omega (arith, mul-le-mul small (p .columns .1))
-
--- the window of a block of at most 16 × 16 samples
-module _ {w h : ℕ} (s : Span w h) where
-  pub window-inside : Inside (w + 1) 0 0 (w + 1) (h + 1) 289
-  window-inside =
-      let high : 0 + (h + 1) ≤ 17 = omega arith in
-      let wide : w + 1 ≤ 17 = omega arith in
-      record { some = omega arith; across = omega arith; down = mul-le-mul high wide }
-
-  pub window-room : {e : ℕ} → e ≤ 1 → (h - 1 + e) * (w + 1) + w + e ≤ 289
-  window-room {e} k =
-      let high : h - 1 + e ≤ 16 = omega arith in
-      let wide : w + 1 ≤ 17 = omega arith in
-      omega (arith, mul-le-mul high wide)
 
 -- the output holds the block and nothing else
 pub block-inside : {w h size : ℕ} → Span w h → size ≡ w * h → Inside w 0 0 w h size

@@ -4,16 +4,16 @@ use mathlib.Core.Path.{_≡_, refl, sym, ap, _∙_}
 use mathlib.Core.List.{List}
 use mathlib.Core.Logic.{_⊎_, inl, inr, ⊎-elim}
 use Prim.Native.Nat.{ℕ, zero, suc, _+_, _-_, _*_, _≤_, _<_, min}
-use native.Mathlib.Nat.{add-mul, mul-comm, zero-add, add-zero}
+use native.Mathlib.Nat.{add-mul, mul-comm, zero-add}
 use native.Mathlib.Omega.{arith}
 use borrow.Author.Tests.{ne-eqb}
 use mathlib.Core.Bool.{true}
 use lib.IntN.{ℤ, pos, negsuc, natAbs, _+ℤ_, _-ℤ_}
 use lib.Signed.{pos-natAbs, leZ}
 use lib.ListN.{length, getD, replicate}
-use Rattle.picture.specs.Painted.{Inside, painted}
+use Rattle.picture.specs.Painted.{painted}
 use Rattle.picture.specs.Rows.{row}
-use Rattle.picture.proofs.Laws.{more, row-same, painted-same, painted-values, both-true}
+use Rattle.picture.proofs.Laws.{more, row-same, painted-values, both-true}
 use Rattle.ints.specs.Z.{if_then_else_, clampZ, floorZ, modZ}
 use mir.Syntax.{w64}
 use mir.Facts.{toZ-ofZ}
@@ -26,7 +26,7 @@ use Rattle.compensation.specs.Block.{Whole, Span}
 use Rattle.compensation.specs.Taps.{Placed, TapsIn, liesIn}
 use Rattle.compensation.specs.declared.svq3_mc.Taps.{Taps}
 use Rattle.compensation.proofs.Sides.{line-small}
-use Rattle.compensation.specs.Kernel.{originOf, near, nearFrom, picked, pickedAt, lineAt, windowAt, windowBlock, fourAt, fourRow, fourBlock, extra}
+use Rattle.compensation.specs.Kernel.{originOf, near, nearFrom, lineAt, windowAt, windowBlock, fourAt, fourRow, fourBlock, extra}
 
 -- ---- places before and past a line of n
 module _ (n : ℕ) where
@@ -159,12 +159,11 @@ pub line-place : {width height size line a : ℕ} → Whole width height size �
 line-place {width} {height} full lt la = omega (arith, full .all, more width lt, mul-comm height width)
 
 module _ (width bx : ℕ) {columns : List ℕ} (is : columns ≡ row (replicate 17 0) 0 (nearFrom width bx) 17) where
-  pub column-below : 0 < width → (k : ℕ) → k < 17 → getD columns k 0 < width
-  column-below some k h = rw (is, columns-at width bx k h) (near-below width (bx + k) some)
+  pub column-is : (k : ℕ) → k < 17 → getD columns k 0 ≡ near width (bx + k)
+  column-is k h = rw is (columns-at width bx k h)
 
-  pub picked-block : (plane : List ℕ) (height by w h : ℕ) (l : List ℕ) → w ≤ 17 → painted w 0 0 w h (pickedAt plane columns width height by) l ≡ painted w 0 0 w h (windowAt plane width height bx by) l
-  unfolding pickedAt picked windowAt lineAt
-  picked-block plane height by w h l le = painted-values w 0 0 w h _ _ l (λ r c lr lc. rw (is, columns-at width bx c (omega arith)))
+  pub column-below : 0 < width → (k : ℕ) → k < 17 → getD columns k 0 < width
+  column-below some k h = rw (column-is k h) (near-below width (bx + k) some)
 
 -- ---- a source that holds the taps t
 pub four-taps : (f : ℕ → ℕ → ℕ → ℕ → ℕ) (src : List ℕ) (stride from : ℕ) (t : ℕ → ℕ → ℕ) (r c : ℕ) → ((r′ c′ : ℕ) → r′ ≤ r + 1 → c′ ≤ c + 1 → getD src (from + r′ * stride + c′) 0 ≡ t r′ c′)
@@ -181,14 +180,6 @@ four-taps f src stride from t r c e =
     let s01 = ap s below ∙ e (r + 1) c (omega arith) (omega arith) in
     let s11 = ap s across ∙ e (r + 1) (c + 1) (omega arith) (omega arith) in
     λ i. f (s00 i) (s10 i) (s01 i) (s11 i)
-
--- gathered
-pub gathered-sample : (f : ℕ → ℕ → ℕ → ℕ → ℕ) (plane window l : List ℕ) (width height bx by w h r c : ℕ) → window ≡ painted (w + 1) 0 0 (w + 1) (h + 1) (windowAt plane width height bx by) l → Inside (w + 1) 0 0 (w + 1) (h + 1) (length l) → r < h → c < w
-    → fourBlock f window (w + 1) 0 r c ≡ windowBlock f plane width height bx by r c
-unfolding windowBlock
-gathered-sample f plane window l width height bx by w h r c e i lr lc =
-    four-taps f window (w + 1) 0 (windowAt plane width height bx by) r c
-    (λ r′ c′ k k′. rw (e, zero-add) (simp (zero-add, add-zero) at (painted-same (windowAt plane width height bx by) l r′ c′ 0 i (omega arith) (omega arith))))
 
 -- ---- the plane itself
 module _ (plane : List ℕ) (width height a b : ℕ) where

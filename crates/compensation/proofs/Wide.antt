@@ -6,11 +6,11 @@ use mathlib.Core.List.{List}
 use Prim.Native.Nat.{ℕ, _+_, _-_, _*_, _≤_, _<_}
 use native.Mathlib.Nat.{eq-or-lt-of-le, eq-zero-or-pos}
 use native.Mathlib.Omega.{arith}
-use lib.ListN.{length, getD}
+use lib.ListN.{length, getD, replicate}
 use Rattle.picture.specs.Rows.{row, run}
 use Rattle.picture.proofs.Laws.{row-same, row-other}
-use Rattle.compensation.specs.Kernel.{near, lineAt, windowAt, windowBlock, fourBlock, runAt, edgeAt, Wide}
-use Rattle.compensation.proofs.Taps.{four-taps}
+use Rattle.compensation.specs.Kernel.{near, nearFrom, picked, pickedAt, lineAt, windowAt, windowBlock, fourBlock, runAt, edgeAt, Wide}
+use Rattle.compensation.proofs.Taps.{four-taps, column-is}
 
 -- no row
 pub wide-none : (l : List ℕ) (from : ℕ) (v : ℕ → ℕ → ℕ) → Wide l from 0 v
@@ -101,6 +101,11 @@ module _ (plane window : List ℕ) (width height bx by h : ℕ) where
             let n : line + (bx - 17) + c ≡ line + near width (bx + c) = omega (arith, one-of width (bx + c) line (omega arith) (omega arith)) in
             p .at r c lr lc ∙ ap (λ (k : ℕ). getD plane k 0) n;
       }
+
+  -- in the columns that are listed
+  pub wide-picked : {columns : List ℕ} → columns ≡ row (replicate 17 0) 0 (nearFrom width bx) 17 → Wide window 0 h (pickedAt plane columns width height by) → Wide window 0 h (windowAt plane width height bx by)
+  unfolding pickedAt picked windowAt lineAt
+  wide-picked is p = record { at = λ r c lr lc. p .at r c lr lc ∙ ap (λ (k : ℕ). getD plane (near height (by + r) * width + k) 0) (column-is width bx is c lc) }
 
 -- ---- a block whose taps they are
 pub wide-sample : (f : ℕ → ℕ → ℕ → ℕ → ℕ) (plane window : List ℕ) (width height bx by from h r c : ℕ) → Wide window from (h + 1) (windowAt plane width height bx by) → r < h → c < 16 → fourBlock f window 34 from r c ≡ windowBlock f plane width height bx by r c

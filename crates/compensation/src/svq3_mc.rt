@@ -13,7 +13,6 @@ use crate::kernel::extra_of;
 use crate::tiles::interpolate;
 use crate::tiles::interpolate_pair;
 use crate::window::gather;
-use crate::window::gather_wide;
 use crate::window::origin;
 use ints::half_toward_zero;
 use refusal::Refusal;
@@ -57,15 +56,9 @@ fn across_edge(
 {
     let bx = origin(ox, width);
     let by = origin(oy, height);
-    if 17 <= width {
-        let mut window = [0u8; 578];
-        let from = gather_wide(&mut window, plane, width, height, bx, by, h + 1);
-        interpolate(dst, &window, dstride, dx, dy, w, h, 34, from, px, py);
-    } else {
-        let mut window = [0u8; 289];
-        gather(&mut window, plane, width, height, bx, by, w + 1, h + 1);
-        interpolate(dst, &window, dstride, dx, dy, w, h, w + 1, 0, px, py);
-    }
+    let mut window = [0u8; 578];
+    let from = gather(&mut window, plane, width, height, bx, by, h + 1);
+    interpolate(dst, &window, dstride, dx, dy, w, h, 34, from, px, py);
 }
 
 // How a block reads its taps: the phases, where its first tap lies, and whether all lie inside the plane.

@@ -2,7 +2,6 @@
 ghost use mathlib.Core.Path.{_≡_};
 ghost use Prim.Native.Nat.{ℕ, _+_, _-_, _*_, _%_, _<_, _≤_};
 ghost use lib.ListN.{length, getD, replicate};
-ghost use Rattle.picture.specs.Painted.{Inside, painted};
 ghost use Rattle.picture.specs.Rows.{row, run};
 ghost use Rattle.compensation.specs.Kernel.{originOf, near, nearFrom, picked, pickedAt, windowAt, Wide, runAt, edgeAt};
 ghost use Rattle.compensation.specs.Block.{Whole};
@@ -44,64 +43,37 @@ fn columns_of(width: usize, bx: usize) -> [usize; 17]
     t
 }
 
-fn gather_row(
-    window: &mut [u8],
-    plane: &[u8],
-    columns: &[usize; 17],
-    at: usize,
-    line: usize,
-    n: usize,
-)
-    requires { ⌜ (n ≤ 17) × (at + n ≤ length (now window)) × ((k : ℕ) → k < n → line + getD (now columns) k 0 < length (now plane)) ⌝ }
-    ensures { λ _. ⌜ now (window .exit) ≡ row (now (window .entry)) at (picked (now (plane .entry)) line (now (columns .entry))) n ⌝ }
+fn gather_row(window: &mut [u8], plane: &[u8], columns: &[usize; 17], at: usize, line: usize)
+    requires { ⌜ (at + 17 ≤ length (now window)) × ((k : ℕ) → k < 17 → line + getD (now columns) k 0 < length (now plane)) ⌝ }
+    ensures { λ _. ⌜ now (window .exit) ≡ row (now (window .entry)) at (picked (now (plane .entry)) line (now (columns .entry))) 17 ⌝ }
 {
     let mut c = 0;
-    while c < n {
+    while c < 17 {
         window[at + c] = plane[line + columns[c]];
         c += 1;
     }
 }
 
-// w taps of each of h rows, the first of them at by.
-fn gather_rows(
+// 17 taps of each of h rows, the first of them at by, one by one: the first of rows of 34 places.
+fn gather_each(
     window: &mut [u8],
     plane: &[u8],
     columns: &[usize; 17],
     width: usize,
     height: usize,
     by: usize,
-    w: usize,
     h: usize,
 )
-    requires { ⌜ Inside w 0 0 w h (length (now window)) × (w ≤ 17) × (h ≤ 17) ⌝ }
+    requires { ⌜ (h * 34 ≤ length (now window)) × (h ≤ 17) ⌝ }
     requires { ⌜ Whole width height (length (now plane)) × (by ≤ height + 16) × ((k : ℕ) → k < 17 → getD (now columns) k 0 < width) ⌝ }
-    ensures { λ _. ⌜ now (window .exit) ≡ painted w 0 0 w h (pickedAt (now (plane .entry)) (now (columns .entry)) width height by) (now (window .entry)) ⌝ }
+    ensures { λ _. ⌜ Wide (now (window .exit)) 0 h (pickedAt (now (plane .entry)) (now (columns .entry)) width height by) ⌝ }
 {
     let mut r = 0;
     while r < h {
         let line = near_of(height, by + r) * width;
-        gather_row(window, plane, columns, r * w, line, w);
+        gather_row(window, plane, columns, r * 34, line);
         r += 1;
     }
-}
-
-// The w × h taps whose first lies at (bx, by), one by one: for planes of less than 17 columns.
-pub fn gather(
-    window: &mut [u8],
-    plane: &[u8],
-    width: usize,
-    height: usize,
-    bx: usize,
-    by: usize,
-    w: usize,
-    h: usize,
-)
-    requires { ⌜ Inside w 0 0 w h (length (now window)) × (w ≤ 17) × (h ≤ 17) ⌝ }
-    requires { ⌜ Whole width height (length (now plane)) × (bx ≤ width + 16) × (by ≤ height + 16) ⌝ }
-    ensures { λ _. ⌜ now (window .exit) ≡ painted w 0 0 w h (windowAt (now (plane .entry)) width height bx by) (now (window .entry)) ⌝ }
-{
-    let columns = columns_of(width, bx);
-    gather_rows(window, plane, &columns, width, height, by, w, h);
 }
 
 fn fill_run(window: &mut [u8], at: usize, sample: u8)
@@ -175,8 +147,8 @@ fn gather_beside(
 
 // 17 taps of each of h rows, the first of them at (bx, by): a row of 34 places holds them from the answer on.
 // Left of the plane a row is 17 times the line's first sample, then its first 17; right of it the last 17, then 17 times the last.
-// Runs of known length need no loop, and nothing is clamped by column.
-pub fn gather_wide(
+// Runs of known length need no loop, and nothing is clamped by column. A plane of less than 17 columns has no such runs.
+pub fn gather(
     window: &mut [u8],
     plane: &[u8],
     width: usize,
@@ -185,10 +157,15 @@ pub fn gather_wide(
     by: usize,
     h: usize,
 ) -> usize
-    requires { ⌜ (h * 34 ≤ length (now window)) × (h ≤ 17) × (17 ≤ width) ⌝ }
+    requires { ⌜ (h * 34 ≤ length (now window)) × (h ≤ 17) ⌝ }
     requires { ⌜ Whole width height (length (now plane)) × (bx ≤ width + 16) × (by ≤ height + 16) ⌝ }
     ensures { λ from. ⌜ (from ≤ 17) × Wide (now (window .exit)) from h (windowAt (now (plane .entry)) width height bx by) ⌝ }
 {
+    if width < 17 {
+        let columns = columns_of(width, bx);
+        gather_each(window, plane, &columns, width, height, by, h);
+        return 0;
+    }
     if bx < 17 {
         gather_beside(window, plane, width, height, by, h, 0, 17, 0);
         return bx;

@@ -10,20 +10,20 @@ use Rattle.compensation.proofs.window.gather_row.Statement.{statement}
 use Rattle.compensation.proofs.window.gather_row.Tie as tie
 
 abbrev Inv-loop : tie.InvT-loop
-Inv-loop window₀ plane columns at line n c₀ window c = (c ≤ n) × (length window ≡ length window₀) × (window ≡ row window₀ at (picked plane line columns) c)
+Inv-loop window₀ plane columns at line c₀ window c = (c ≤ 17) × (length window ≡ length window₀) × (window ≡ row window₀ at (picked plane line columns) c)
 
 abbrev μ-loop : tie.MeasureT-loop
-μ-loop window₀ plane columns at line n c₀ window c = n - c
+μ-loop window₀ plane columns at line c₀ window c = 17 - c
 
 loop-holds : tie.Need-loop-holds Inv-loop μ-loop
 unfolding row
 loop-holds c = (omega arith, refl, refl)
 
 add-window : tie.Need-add-window Inv-loop μ-loop
-add-window c = omega (arith, c .before .before .before .pre .2 (c .before .before .loop .c) (omega arith))
+add-window c = omega (arith, c .before .before .before .pre .1 (c .before .before .loop .c) (omega arith))
 
 shared-slice-read-window : tie.Need-shared-slice-read-window Inv-loop μ-loop
-shared-slice-read-window c = c .before .before .before .before .pre .2 (c .before .before .before .loop .c) (omega arith)
+shared-slice-read-window c = c .before .before .before .before .pre .1 (c .before .before .before .loop .c) (omega arith)
 
 loop-again : tie.Need-loop-again Inv-loop μ-loop
 unfolding picked
@@ -34,7 +34,7 @@ loop-again c =
 
 returns : tie.Need-returns Inv-loop μ-loop
 returns c =
-    let e : c .before .loop .c ≡ c .before .before .args .n = omega arith in
+    let e : c .before .loop .c ≡ 17 = omega arith in
     rw (← e) (c .before .loop .inv .2)
 
 pub gather-row-spec : {M : Type 1} → statement M
