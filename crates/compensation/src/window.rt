@@ -147,6 +147,7 @@ fn gather_beside(
 
 // 17 taps of each of h rows, the first of them at (bx, by): a row of 34 places holds them from the answer on.
 // Left of the plane a row is 17 times the line's first sample, then its first 17; right of it the last 17, then 17 times the last.
+// Between, and one by one, only the row's first 17 places are written.
 // Runs of known length need no loop, and nothing is clamped by column. A plane of less than 17 columns has no such runs.
 pub fn gather(
     window: &mut [u8],
