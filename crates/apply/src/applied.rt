@@ -105,6 +105,7 @@ pub fn apply_record(
 {
     let column = head.column as usize;
     let row = head.row as usize;
+    // Never true; so the reads ahead stay in the compiled code.
     if touch_next_row(y, cb, cr, mv, marks, ry, rcb, rcr, cols, rows, column, row) {
         return;
     }
@@ -136,6 +137,7 @@ pub fn apply_skip(
     ensures { λ _. ⌜ now (mv .exit) ≡ appliedField (skipRecord column row) (fieldOf cols rows (now (mv .entry)) (now (marks .entry))) .mv ⌝ }
     ensures { λ _. ⌜ now (marks .exit) ≡ appliedField (skipRecord column row) (fieldOf cols rows (now (mv .entry)) (now (marks .entry))) .marks ⌝ }
 {
+    // Never true; so the reads ahead stay in the compiled code.
     if touch_next_row(y, cb, cr, mv, marks, ry, rcb, rcr, cols, rows, column, row) {
         return;
     }
