@@ -16,6 +16,6 @@ if [ "$(uname -m)" != x86_64 ]; then
 fi
 
 mkdir -p "$out"
-(cd "$root" && rt staticlib acceptance) > "$out/staticlib.log" 2>&1 || { cat "$out/staticlib.log"; exit 1; }
+"$root/tools/gate/staticlib.sh" acceptance
 rustc --edition 2024 -O --extern published="$published" -L "native=$root/target/staticlib" -l static=acceptance \
     -o "$out/acceptance" "$here/src/main.rs"

@@ -16,9 +16,7 @@ if [ "$(uname -m)" != x86_64 ]; then
 fi
 
 mkdir -p "$out"
-for crate in desk timed acceptance; do
-    (cd "$root" && rt staticlib $crate) > "$out/staticlib.log" 2>&1 || { cat "$out/staticlib.log"; exit 1; }
-done
+"$root/tools/gate/staticlib.sh" desk timed acceptance
 rustc --edition 2024 -O --extern published="$published" -L "native=$root/target/staticlib" -l static=desk -l static=timed \
     -l static=acceptance \
     -o "$out/bench" "$here/main.rs"

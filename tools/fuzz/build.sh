@@ -12,5 +12,5 @@ rm -f "$published" "$out/fuzz"
 [ -f "$published" ] || exit 0
 
 mkdir -p "$out"
-(cd "$root" && rt check printer) > "$out/printer.log" 2>&1 || { cat "$out/printer.log"; exit 1; }
+"$root/tools/gate/prove.sh" printer
 rustc --edition 2024 -O --extern published="$published" -o "$out/fuzz" "$here/src/main.rs"

@@ -1,7 +1,7 @@
 #!/bin/sh
 # The gate, behind make test: rt ci, then a fixed part of tools/acceptance, which is skipped without rustc or the Rust's
-# source. Ends with rt ci's last line ('N passed, 0 failed') and its exit status; a difference in the part is exit status 1
-# and another last line.
+# source. Says how far it is; rt ci's whole output goes to target/gate.log, and is printed where it fails. Ends with rt ci's
+# last line ('N passed, 0 failed') and its exit status; a difference in the part is exit status 1 and another last line.
 #
 #   run.sh [RUNS [SEED]]      30000 runs, seed 1
 set -eu
@@ -16,15 +16,17 @@ trap 'rm -rf "$kept"' EXIT
 trap 'exit 1' HUP INT TERM
 
 cd "$root"
-# A pipeline's status is tee's: rt's own goes through a file.
+echo "The gate: every crate proved from nothing, every must-fail edit tried, every program run. About 25 minutes on two cores."
+# A pipeline's status is that of its end: rt's own goes through a file.
 {
     status=0
     # rt starts its checks in batches and waits for the last of each: more of them than processors leaves none idle.
-    RT_JOBS=${RT_JOBS:-4} rt ci || status=$?
+    RT_JOBS=${RT_JOBS:-4} rt ci 2>&1 || status=$?
     echo "$status" > "$kept/status"
-} | tee "$kept/printed"
+} | tools/gate/progress.sh "$kept/printed"
 status=$(cat "$kept/status")
-[ "$status" -eq 0 ] || exit "$status"
+cp "$kept/printed" target/gate.log
+[ "$status" -eq 0 ] || { cat "$kept/printed"; exit "$status"; }
 
 if ! tools/acceptance/run.sh count "$runs" "$seed"; then
     echo "FAILED: tools/acceptance, though rt ci passed"

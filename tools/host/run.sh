@@ -16,7 +16,7 @@ if [ "$(uname -m)" != x86_64 ]; then
 fi
 
 mkdir -p "$out"
-(cd "$root" && rt staticlib desk) > "$out/staticlib.log" 2>&1 || { cat "$out/staticlib.log"; exit 1; }
+"$root/tools/gate/staticlib.sh" desk
 lib=$root/target/staticlib/libdesk.a
 
 cc -std=c11 -Wall -Wextra -Werror -O2 -I "$root/include" -o "$out/host" "$here/host.c" "$lib"

@@ -16,7 +16,7 @@ reference=$root/target/reference/reference
 acceptance=$root/target/acceptance/acceptance
 
 mkdir -p "$out"
-(cd "$root" && rt check printer) > "$out/printer.log" 2>&1 || { cat "$out/printer.log"; exit 1; }
+"$root/tools/gate/prove.sh" printer
 rm -f "$reference" "$acceptance"
 "$root/tools/acceptance/build.sh"
 
