@@ -22,15 +22,14 @@ pub record Left : Type 0 where
   pub state : State
   pub transcript : List ℕ
 
--- the numbers; the consumed bits are the place's movement
 abbrev pub reportOf : ℕ → ℕ → ℕ → ℕ → ℕ → Stop → Report
-reportOf accepted first place quantiser fill stop = record { accepted = accepted; consumed = place - first; place = place; quantiser = quantiser; fill = fill; stop = stop }
+reportOf accepted consumed place quantiser fill stop = record { accepted = accepted; consumed = consumed; place = place; quantiser = quantiser; fill = fill; stop = stop }
 
 -- of a run from a place on, `before` calls having been accepted already: the counts are the number of accepted calls and the place's movement
 unfoldable pub leaves : ℕ → ℕ → Ran → Left
 leaves before place r =
     record {
-      report = reportOf (before + length (r .accepted)) place (r .place) (r .state .quantiser) (r .fill) (r .stop);
+      report = reportOf (before + length (r .accepted)) (r .place - place) (r .place) (r .state .quantiser) (r .fill) (r .stop);
       state = r .state;
       transcript = r .transcript;
     }

@@ -1,6 +1,5 @@
 // What a run says of itself, and the definition of a run (specs/Run.antt).
 ghost use mathlib.Core.Path.{_≡_};
-ghost use Prim.Native.Nat.{_≤_};
 ghost use Rattle.questions.specs.Questions.{askRun};
 ghost use Rattle.report.specs.Run.{stopOf};
 ghost use Rattle.report.specs.Left.{reportOf};
@@ -30,18 +29,17 @@ pub struct Report {
 
 pub fn report_of(
     accepted: usize,
-    first: usize,
+    consumed: usize,
     place: usize,
     quantiser: u32,
     fill: usize,
     stop: Stop,
 ) -> Report
-    requires { ⌜ first ≤ place ⌝ }
-    ensures { λ r. ⌜ r ≡ reportOf accepted first place quantiser fill stop ⌝ }
+    ensures { λ r. ⌜ r ≡ reportOf accepted consumed place quantiser fill stop ⌝ }
 {
     Report {
         accepted,
-        consumed: place - first,
+        consumed,
         place,
         quantiser,
         fill,
@@ -51,10 +49,10 @@ pub fn report_of(
 
 // A run with no call: its questions are asked all the same.
 pub fn run_nothing(frame: Frame, l: Lengths, quantiser: u32, size: usize, place: usize) -> Report
-    ensures { λ r. ⌜ r ≡ reportOf 0 place place quantiser 0 (stopOf (askRun (frame .cols) (frame .rows) l quantiser size place)) ⌝ }
+    ensures { λ r. ⌜ r ≡ reportOf 0 0 place quantiser 0 (stopOf (askRun (frame .cols) (frame .rows) l quantiser size place)) ⌝ }
 {
     match ask_run(frame.cols, frame.rows, l, quantiser, size, place) {
-        Asked::Yes => report_of(0, place, place, quantiser, 0, Stop::Done),
-        Asked::No(why) => report_of(0, place, place, quantiser, 0, Stop::By(why)),
+        Asked::Yes => report_of(0, 0, place, quantiser, 0, Stop::Done),
+        Asked::No(why) => report_of(0, 0, place, quantiser, 0, Stop::By(why)),
     }
 }

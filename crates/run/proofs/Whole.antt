@@ -2,7 +2,7 @@
 -- Assumes nothing.
 use mathlib.Core.Path.{_≡_, refl, sym, ap, _∙_}
 use mathlib.Core.List.{List, [], _∷_}
-use Prim.Native.Nat.{ℕ, _+_, _<_}
+use Prim.Native.Nat.{ℕ, _+_, _-_, _<_}
 use native.Mathlib.Omega.{arith}
 use lib.ListN.{length}
 use Rattle.refusal.specs.Got.{Got, got, refused}
@@ -27,22 +27,26 @@ listed list {n} e = go (calls list) refl e
     go (refused w) x h = apart h
 
 module _ (s : State) (list bits : List ℕ) (place : ℕ) (t : List ℕ) where
-  pub refused-list : {why : Refusal} → Refused why ≡ callsAnswer (calls list) → record { report = reportOf 0 place place (s .quantiser) 0 (By why); state = s; transcript = t } ≡ listLeft s list bits place t
+  -- no bit was taken
+  none-taken : 0 ≡ place - place
+  none-taken = omega arith
+
+  pub refused-list : {why : Refusal} → Refused why ≡ callsAnswer (calls list) → record { report = reportOf 0 0 place (s .quantiser) 0 (By why); state = s; transcript = t } ≡ listLeft s list bits place t
   unfolding listLeft ranList leaves ended
   refused-list {why} e = go (calls list) e
     where
-      go : (g : Got (List Call)) → Refused why ≡ callsAnswer g → record { report = reportOf 0 place place (s .quantiser) 0 (By why); state = s; transcript = t } ≡ leaves 0 place (ranOf s g bits place t)
+      go : (g : Got (List Call)) → Refused why ≡ callsAnswer g → record { report = reportOf 0 0 place (s .quantiser) 0 (By why); state = s; transcript = t } ≡ leaves 0 place (ranOf s g bits place t)
       go (got cs n) h = apart (sym h)
-      go (refused w) h = let x : why ≡ w = cc in ap (λ (r : Refusal). leaves 0 place (ended s place t 0 (By r))) x
+      go (refused w) h = let x : why ≡ w = cc in (λ i. record { report = reportOf 0 (none-taken i) place (s .quantiser) 0 (By (x i)); state = s; transcript = t })
 
   module _ {n : ℕ} (e : Calls n ≡ callsAnswer (calls list)) where
-    pub no-call : n ≡ 0 → record { report = reportOf 0 place place (s .quantiser) 0 (stopOf (askRun (s .cols) (s .rows) (lengthsOf s) (s .quantiser) (length bits) place)); state = s; transcript = t } ≡ listLeft s list bits place t
+    pub no-call : n ≡ 0 → record { report = reportOf 0 0 place (s .quantiser) 0 (stopOf (askRun (s .cols) (s .rows) (lengthsOf s) (s .quantiser) (length bits) place)); state = s; transcript = t } ≡ listLeft s list bits place t
     unfolding listLeft ranList leaves ended ran
     no-call z = go (calls list) e
       where
         go : (g : Got (List Call)) → Calls n ≡ callsAnswer g
-            → record { report = reportOf 0 place place (s .quantiser) 0 (stopOf (askRun (s .cols) (s .rows) (lengthsOf s) (s .quantiser) (length bits) place)); state = s; transcript = t } ≡ leaves 0 place (ranOf s g bits place t)
-        go (got [] k) h = refl
+            → record { report = reportOf 0 0 place (s .quantiser) 0 (stopOf (askRun (s .cols) (s .rows) (lengthsOf s) (s .quantiser) (length bits) place)); state = s; transcript = t } ≡ leaves 0 place (ranOf s g bits place t)
+        go (got [] k) h = ap (λ (taken : ℕ). record { report = reportOf 0 taken place (s .quantiser) 0 (stopOf (askRun (s .cols) (s .rows) (lengthsOf s) (s .quantiser) (length bits) place)); state = s; transcript = t }) none-taken
         go (got (c ∷ cs) k) h = absurd (let x : n ≡ length (c ∷ cs) = cc in omega arith)
         go (refused w) h = apart h
 

@@ -63,6 +63,6 @@ pub fn run(
                 place,
             )
         }
-        CallsAnswer::Refused(why) => report_of(0, place, place, quantiser, 0, Stop::By(why)),
+        CallsAnswer::Refused(why) => report_of(0, 0, place, quantiser, 0, Stop::By(why)),
     }
 }

@@ -26,20 +26,22 @@ use Rattle.report.specs.declared.Stop.the-variants.{Done, By}
 
 -- ---- the run
 -- `accepted` calls were made, the list is read up to `at`, and the next call is at place p
-pub record Going (whole : Left) (s : State) (list bits : List ℕ) (place at p : ℕ) (t : List ℕ) (fill accepted : ℕ) : Type 0 where
+pub record Going (whole : Left) (s : State) (list bits : List ℕ) (place at p : ℕ) (t : List ℕ) (fill accepted consumed : ℕ) : Type 0 where
   pub listed : Listed (drop at list)
   pub same : leaves accepted place (ranFrom s (listed .cs) bits p t fill) ≡ whole
   pub onward : place ≤ p
   pub few : accepted ≤ at
+  -- the sum of what the calls took is the place's movement
+  pub counted : consumed ≡ p - place
 
-module _ {whole : Left} {s : State} {list bits : List ℕ} {place at p : ℕ} {t : List ℕ} {fill accepted : ℕ} (g : Going whole s list bits place at p t fill accepted) where
+module _ {whole : Left} {s : State} {list bits : List ℕ} {place at p : ℕ} {t : List ℕ} {fill accepted consumed : ℕ} (g : Going whole s list bits place at p t fill accepted consumed) where
   -- no call is left
-  pub end : length list ≤ at → record { report = reportOf accepted place p (s .quantiser) fill Done; state = s; transcript = t } ≡ whole
+  pub end : length list ≤ at → record { report = reportOf accepted consumed p (s .quantiser) fill Done; state = s; transcript = t } ≡ whole
   unfolding leaves ranFrom ended
   end h =
       let e = calls-none (drop at list) (g .listed .cs) (g .listed .taken) (length-drop at list ∙ omega arith) (g .listed .is) in
       let z : accepted ≡ accepted + 0 = omega arith in
-      ap (λ (n : ℕ). record { report = reportOf n place p (s .quantiser) fill Done; state = s; transcript = t }) z
+      (λ i. record { report = reportOf (z i) (g .counted i) p (s .quantiser) fill Done; state = s; transcript = t })
       ∙ ap (λ (cs : List Call). leaves accepted place (ranFrom s cs bits p t fill)) (sym e) ∙ g .same
 
   module _ (lt : at < length list) where
@@ -73,7 +75,7 @@ module _ {whole : Left} {s : State} {list bits : List ℕ} {place at p : ℕ} {t
       told h = ap (λ (b : MbAnswer). record { answer = b; state = S (quantiserBy q b); transcript = t′ }) (sym h) ∙ o
 
       pub stopped : {why : Refusal} → a ≡ Refused why
-          → record { report = reportOf accepted place p q fill (By why); state = S q; transcript = t′ } ≡ whole
+          → record { report = reportOf accepted consumed p q fill (By why); state = S q; transcript = t′ } ≡ whole
       unfolding leaves ranFrom ended
       stopped {why} h =
           let d = told h in
@@ -81,14 +83,18 @@ module _ {whole : Left} {s : State} {list bits : List ℕ} {place at p : ℕ} {t
           let es : S q ≡ s = ap (λ (x : Outcome). x .state) k in
           let et : t′ ≡ t = ap (λ (x : Outcome). x .transcript) k in
           let z : accepted ≡ accepted + 0 = omega arith in
-          ap (λ (n : ℕ). record { report = reportOf n place p q fill (By why); state = S q; transcript = t′ }) z
-          ∙ ap (λ (x : State). record { report = reportOf (accepted + 0) place p q fill (By why); state = x; transcript = t′ }) es
-          ∙ ap (λ (x : List ℕ). record { report = reportOf (accepted + 0) place p q fill (By why); state = s; transcript = x }) et
-          ∙ ap (λ (x : ℕ). record { report = reportOf (accepted + 0) place p x fill (By why); state = s; transcript = t }) (sym sq)
+          (λ i. record { report = reportOf (z i) (g .counted i) p q fill (By why); state = S q; transcript = t′ })
+          ∙ ap (λ (x : State). record { report = reportOf (accepted + 0) (p - place) p q fill (By why); state = x; transcript = t′ }) es
+          ∙ ap (λ (x : List ℕ). record { report = reportOf (accepted + 0) (p - place) p q fill (By why); state = s; transcript = x }) et
+          ∙ ap (λ (x : ℕ). record { report = reportOf (accepted + 0) (p - place) p x fill (By why); state = s; transcript = t }) (sym sq)
           ∙ ap (λ (x : Outcome). leaves accepted place (onward call s p t fill (x .answer) (λ p₁ f₁. ranFrom (x .state) (next-call .rest) bits p₁ (x .transcript) f₁))) (sym k ∙ d)
           ∙ ap (leaves accepted place) (sym this) ∙ g .same
 
-      pub on : {p₁ q₁ f₁ k : ℕ} → a ≡ Accepted p₁ q₁ f₁ k → Going whole (S q₁) list bits place next p₁ t′ f₁ (accepted + 1)
+      -- the place has not moved back
+      pub forward : {p₁ q₁ f₁ k : ℕ} → a ≡ Accepted p₁ q₁ f₁ k → p ≤ p₁
+      forward h = accepted-on s call bits p t fill (told h) refl
+
+      pub on : {p₁ q₁ f₁ k : ℕ} → a ≡ Accepted p₁ q₁ f₁ k → Going whole (S q₁) list bits place next p₁ t′ f₁ (accepted + 1) (consumed + (p₁ - p))
       unfolding leaves ranFrom withCall
       on {p₁} {q₁} {f₁} {k} h =
           let d = told h in
@@ -96,18 +102,19 @@ module _ {whole : Left} {s : State} {list bits : List ℕ} {place at p : ℕ} {t
           let l : Listed (drop next list) = record { cs = n .rest; taken = n .m; is = ap (λ (i : ℕ). calls (drop i list)) next-is ∙ n .behind } in
           let r = ranFrom (S q₁) (n .rest) bits p₁ t′ f₁ in
           let z : accepted + 1 + length (r .accepted) ≡ accepted + suc (length (r .accepted)) = omega arith in
-          let m = accepted-on s call bits p t fill d refl in
+          let m = forward h in
           record {
             listed = l;
             same =
-                ap (λ (i : ℕ). record { report = reportOf i place (r .place) (r .state .quantiser) (r .fill) (r .stop); state = r .state; transcript = r .transcript }) z
+                ap (λ (i : ℕ). record { report = reportOf i (r .place - place) (r .place) (r .state .quantiser) (r .fill) (r .stop); state = r .state; transcript = r .transcript }) z
                 ∙ ap (λ (x : Outcome). leaves accepted place (onward call s p t fill (x .answer) (λ p₂ f₂. ranFrom (x .state) (n .rest) bits p₂ (x .transcript) f₂))) d
                 ∙ ap (leaves accepted place) (sym this) ∙ g .same;
             onward = omega (arith, g .onward, m);
             few = omega (arith, g .few, next-is, n .some);
+            counted = omega (arith, g .onward, g .counted, m);
           }
 
 -- at first
-pub start : {s : State} {list bits : List ℕ} {place : ℕ} {t : List ℕ} (l : Listed list) → Going (callsLeft s list bits place t) s list bits place 0 place t 0 0
+pub start : {s : State} {list bits : List ℕ} {place : ℕ} {t : List ℕ} (l : Listed list) → Going (callsLeft s list bits place t) s list bits place 0 place t 0 0 0
 unfolding callsLeft
-start {s} {list} {bits} {place} {t} l = record { listed = l; same = ap (λ (x : Got (List Call)). leaves 0 place (fromOf s x bits place t 0)) (sym (l .is)); onward = omega arith; few = omega arith }
+start {s} {list} {bits} {place} {t} l = record { listed = l; same = ap (λ (x : Got (List Call)). leaves 0 place (fromOf s x bits place t 0)) (sym (l .is)); onward = omega arith; few = omega arith; counted = omega arith }

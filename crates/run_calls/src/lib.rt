@@ -36,10 +36,18 @@ pub fn run_calls(
     let mut p = place;
     let mut fill = 0;
     let mut accepted = 0;
+    let mut consumed = 0;
     let mut at = 0;
     while at < list.len() {
         let CallAnswer::Call(call, next) = read_call(list, at) else {
-            return report_of(accepted, place, p, q, fill, Stop::By(Refusal::NumberForm));
+            return report_of(
+                accepted,
+                consumed,
+                p,
+                q,
+                fill,
+                Stop::By(Refusal::NumberForm),
+            );
         };
         match decode_inter_mb(
             y,
@@ -59,6 +67,7 @@ pub fn run_calls(
             fill,
         ) {
             MbAnswer::Accepted(after, quantiser_after, fill_after, _) => {
+                consumed += after - p;
                 p = after;
                 q = quantiser_after;
                 fill = fill_after;
@@ -66,9 +75,9 @@ pub fn run_calls(
                 at = next;
             }
             MbAnswer::Refused(why) => {
-                return report_of(accepted, place, p, q, fill, Stop::By(why));
+                return report_of(accepted, consumed, p, q, fill, Stop::By(why));
             }
         }
     }
-    report_of(accepted, place, p, q, fill, Stop::Done)
+    report_of(accepted, consumed, p, q, fill, Stop::Done)
 }

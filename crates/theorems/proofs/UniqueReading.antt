@@ -1,22 +1,25 @@
 -- UNIQUE READING: for any two runs from one start, whatever their lists of calls, bits, places and transcript room, and also where a refused call stops one or both:
--- if no accepted call of either clips a component, their accepted calls and consumed bits are equal exactly when their transcripts are.
+-- equal accepted calls and equal consumed bits give equal transcripts; and equal transcripts give equal calls and equal bits where one of the two runs clipped no component.
+-- proofs/Clipped.antt shows that the last premise is needed.
 -- Assumes nothing.
 use mathlib.Core.Path.{_≡_, refl, sym, ap, _∙_, subst}
-use mathlib.Core.Logic.{_↔_}
+use mathlib.Core.Logic.{_↔_, inl, inr}
 use mathlib.Core.List.{List, [], _∷_, _++_}
 use Prim.Native.Nat.{ℕ, _+_, _-_}
 use native.Mathlib.Omega.{arith}
-use lib.ListN.{take, drop}
+use lib.ListN.{length, take, drop, length-take}
 use Rattle.bits.specs.Bits.{bitList}
 use Rattle.questions.specs.declared.Call.{Call}
 use Rattle.outcome.specs.State.{State}
 use Rattle.refusal.specs.Got.{Got, got, refused}
 use Rattle.calls.specs.Calls.{calls}
 use Rattle.report.specs.Run.{Ran, ended, ran, ranOf, ranList, transcriptOf, consumed}
+use Rattle.report.specs.Left.{leaves, listLeft}
 use Rattle.record.specs.Record.{Record}
 use Rattle.theorems.specs.Trace.{Path, callsOf, bytesOf, clipsOf}
+use Rattle.theorems.specs.Unique.{SameReading, OneUnclipped}
 use Rattle.theorems.proofs.Traces.{Trace, trace, no-call}
-use Rattle.theorems.proofs.Paths.{same-records, same-bits, path-ranged, same-bytes}
+use Rattle.theorems.proofs.Paths.{path-bounded, same-records, same-bits, path-ranged, same-bytes}
 
 pub run-trace : (s : State) (calls : List Call) (bits : List ℕ) (place : ℕ) (t : List ℕ) → Trace s bits place t 0 (ran s calls bits place t)
 unfolding ran
@@ -41,14 +44,20 @@ module _ {s : State} {bits : List ℕ} {place : ℕ} {t : List ℕ} {r : Ran} (x
   unfolding consumed
   consumed-is = let e : r .place - place ≡ x .taken = omega (arith, x .moved) in rw e
 
+  -- no place past the end hides behind `take`: the consumed bits are all there
+  consumed-length : length (consumed bits place r) ≡ r .place - place
+  consumed-length =
+      let b = drop place (bitList bits) in
+      ap length consumed-is ∙ omega (arith, x .moved, path-bounded (x .path), length-take (x .taken) b)
+
 -- of two runs by their records
 module _ {s : State} {bits bits′ : List ℕ} {place place′ : ℕ} {t t′ : List ℕ} {r r′ : Ran} (x : Trace s bits place t 0 r) (y : Trace s bits′ place′ t′ 0 r′) where
-  same-transcript : (r .accepted ≡ r′ .accepted) × (consumed bits place r ≡ consumed bits′ place′ r′) → transcriptOf r ≡ transcriptOf r′
+  same-transcript : SameReading bits place r bits′ place′ r′ → transcriptOf r ≡ transcriptOf r′
   same-transcript h =
       let rs = same-records (x .path) (y .path) (sym (x .calls) ∙ h .0 ∙ y .calls) (sym (consumed-is x) ∙ h .1 ∙ consumed-is y) in
       transcript-is x ∙ ap bytesOf rs ∙ sym (transcript-is y)
 
-  same-reading : r .clipped ≡ 0 → transcriptOf r ≡ transcriptOf r′ → (r .accepted ≡ r′ .accepted) × (consumed bits place r ≡ consumed bits′ place′ r′)
+  same-reading : r .clipped ≡ 0 → transcriptOf r ≡ transcriptOf r′ → SameReading bits place r bits′ place′ r′
   same-reading c h =
       let rs : x .rs ≡ y .rs = same-bytes (path-ranged (x .path)) (path-ranged (y .path)) (sym (transcript-is x) ∙ h ∙ transcript-is y) in
       let q = subst (λ (l : List Record). Path s (drop place′ (bitList bits′)) l (r′ .state) (y .taken)) (sym rs) (y .path) in
@@ -59,9 +68,38 @@ pub unique_reading : (s : State)
     → (list′ bits′ : List ℕ) (place′ : ℕ) (room′ : List ℕ)
     → let r = ranList s list bits place room in
     let r′ = ranList s list′ bits′ place′ room′ in
-    r .clipped ≡ 0 → r′ .clipped ≡ 0
-    → ((r .accepted ≡ r′ .accepted) × (consumed bits place r ≡ consumed bits′ place′ r′)) ↔ (transcriptOf r ≡ transcriptOf r′)
-unique_reading s list bits place room list′ bits′ place′ room′ c c′ =
-    let x = list-trace s list bits place room in
-    let y = list-trace s list′ bits′ place′ room′ in
-    (same-transcript x y, same-reading x y c)
+    (SameReading bits place r bits′ place′ r′ → transcriptOf r ≡ transcriptOf r′)
+    × (OneUnclipped r r′ → transcriptOf r ≡ transcriptOf r′ → SameReading bits place r bits′ place′ r′)
+unique_reading s list bits place room list′ bits′ place′ room′ = (same-transcript x y, go)
+  where
+    r : Ran
+    r = ranList s list bits place room
+
+    r′ : Ran
+    r′ = ranList s list′ bits′ place′ room′
+
+    x : Trace s bits place room 0 r
+    x = list-trace s list bits place room
+
+    y : Trace s bits′ place′ room′ 0 r′
+    y = list-trace s list′ bits′ place′ room′
+
+    go : OneUnclipped r r′ → transcriptOf r ≡ transcriptOf r′ → SameReading bits place r bits′ place′ r′
+    go (inl c) h = same-reading x y c h
+    go (inr c) h = let z = same-reading y x c (sym h) in (sym (z .0), sym (z .1))
+
+-- two runs that clipped nothing: exactly when
+pub unique_reading_unclipped : (s : State)
+    → (list bits : List ℕ) (place : ℕ) (room : List ℕ)
+    → (list′ bits′ : List ℕ) (place′ : ℕ) (room′ : List ℕ)
+    → let r = ranList s list bits place room in
+    let r′ = ranList s list′ bits′ place′ room′ in
+    r .clipped ≡ 0 → r′ .clipped ≡ 0 → SameReading bits place r bits′ place′ r′ ↔ (transcriptOf r ≡ transcriptOf r′)
+unique_reading_unclipped s list bits place room list′ bits′ place′ room′ c c′ =
+    let u = unique_reading s list bits place room list′ bits′ place′ room′ in (u .0, u .1 (inl c))
+
+-- THE COUNT OF BITS that a run reports is the length of the bits that it consumed
+pub bit-count : (s : State) (list bits : List ℕ) (place : ℕ) (room : List ℕ)
+    → listLeft s list bits place room .report .consumed ≡ length (consumed bits place (ranList s list bits place room))
+unfolding listLeft leaves
+bit-count s list bits place room = sym (consumed-length (list-trace s list bits place room))

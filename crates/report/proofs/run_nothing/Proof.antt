@@ -33,11 +33,11 @@ report-of-requires-2 c κs = search needs
 
 -- src/run.rt:106:1
 returns : tie.Need-returns
-returns c = c .report-of .ensures ∙ ap (λ (a : Asked). reportOf 0 (c .before .before .before .before .args .place) (c .before .before .before .before .args .place) (c .before .before .before .before .args .quantiser) 0 (stopOf a)) (sym (c .before .enum-told .given .1) ∙ c .before .before .before .ask-run .ensures)
+returns c = c .report-of .ensures ∙ ap (λ (a : Asked). reportOf 0 0 (c .before .before .before .before .args .place) (c .before .before .before .before .args .quantiser) 0 (stopOf a)) (sym (c .before .enum-told .given .1) ∙ c .before .before .before .ask-run .ensures)
 
 -- src/run.rt:106:1
 returns-2 : tie.Need-returns-2
-returns-2 c = c .report-of2 .ensures ∙ ap (λ (a : Asked). reportOf 0 (c .before .before .before .before .before .args .place) (c .before .before .before .before .before .args .place) (c .before .before .before .before .before .args .quantiser) 0 (stopOf a)) (sym (c .before .before .why .given .1) ∙ c .before .before .before .before .ask-run .ensures)
+returns-2 c = c .report-of2 .ensures ∙ ap (λ (a : Asked). reportOf 0 0 (c .before .before .before .before .before .args .place) (c .before .before .before .before .before .args .quantiser) 0 (stopOf a)) (sym (c .before .before .why .given .1) ∙ c .before .before .before .before .ask-run .ensures)
 
 pub run-nothing-spec : {M : Type 1} → statement M
 run-nothing-spec =

@@ -1,6 +1,6 @@
 -- `run_calls::run_calls` meets its contract. The loop's invariant: what the calls that are left will leave is what the list leaves.
 use mathlib.Core.Path.{_≡_, refl, sym, ap, _∙_}
-use Prim.Native.Nat.{ℕ, _+_, _-_, _≤_, _<_}
+use Prim.Native.Nat.{ℕ, _+_, _-_, _^_, _≤_, _<_}
 use native.Mathlib.Omega.{arith}
 use borrow.Author.Needs.{needs}
 use denote.Ref.{now}
@@ -9,17 +9,17 @@ use Rattle.outcome.specs.State.{State}
 use Rattle.outcome.specs.Entry.{stateOf}
 use Rattle.report.specs.Left.{Left, callsLeft}
 use Rattle.report.specs.declared.Report.{Report}
-use Rattle.run_calls.proofs.Laws.{Going, start, end, in-form, stopped, on, further}
+use Rattle.run_calls.proofs.Laws.{Going, start, end, in-form, stopped, on, further, forward}
 use Rattle.run_calls.proofs.run_calls.Statement.{statement}
 use Rattle.run_calls.proofs.run_calls.Tie as tie
 
 abbrev Inv-loop : tie.InvT-loop
-Inv-loop y₀ cb₀ cr₀ mv₀ marks₀ transcript₀ ry rcb rcr bits list frame quantiser place q₀ p₀ fill₀ accepted₀ at₀ y cb cr mv marks transcript q p fill accepted at =
+Inv-loop y₀ cb₀ cr₀ mv₀ marks₀ transcript₀ ry rcb rcr bits list frame quantiser place q₀ p₀ fill₀ accepted₀ consumed₀ at₀ y cb cr mv marks transcript q p fill accepted consumed at =
     (length y ≡ length y₀) × (length cb ≡ length cb₀) × (length cr ≡ length cr₀) × (length mv ≡ length mv₀) × (length marks ≡ length marks₀) × (length transcript ≡ length transcript₀)
-    × Going (callsLeft (stateOf frame quantiser ry rcb rcr y₀ cb₀ cr₀ mv₀ marks₀) list bits place transcript₀) (stateOf frame q ry rcb rcr y cb cr mv marks) list bits place at p transcript fill accepted
+    × Going (callsLeft (stateOf frame quantiser ry rcb rcr y₀ cb₀ cr₀ mv₀ marks₀) list bits place transcript₀) (stateOf frame q ry rcb rcr y cb cr mv marks) list bits place at p transcript fill accepted consumed
 
 abbrev μ-loop : tie.MeasureT-loop
-μ-loop y₀ cb₀ cr₀ mv₀ marks₀ transcript₀ ry rcb rcr bits list frame quantiser place q₀ p₀ fill₀ accepted₀ at₀ y cb cr mv marks transcript q p fill accepted at =
+μ-loop y₀ cb₀ cr₀ mv₀ marks₀ transcript₀ ry rcb rcr bits list frame quantiser place q₀ p₀ fill₀ accepted₀ consumed₀ at₀ y cb cr mv marks transcript q p fill accepted consumed at =
     length list - at
 
 loop-holds : tie.Need-loop-holds Inv-loop μ-loop
@@ -35,7 +35,7 @@ enum-told : tie.Need-enum-told Inv-loop μ-loop
 enum-told c = search needs
 
 report-of-requires : tie.Need-report-of-requires Inv-loop μ-loop
-report-of-requires c κs = omega (arith, c .before .before .before .before .loop .inv .6 .onward)
+report-of-requires c κs = tt
 
 same-length : tie.Need-same-length Inv-loop μ-loop
 same-length c = c .before .before .before .before .before .loop .inv .0
@@ -64,6 +64,18 @@ decode-inter-mb-requires c κs = tt
 enum-known-after : tie.Need-enum-known-after Inv-loop μ-loop
 enum-known-after c = search needs
 
+-- the place after an accepted call
+moved-on : (c : tie.After-known-told2 Inv-loop μ-loop) → c .before .before .before .before .before .before .before .before .before .before .before .before .before .before .before .before .before .before .before .before .before .before .before .before .before .before .loop .p ≤ c .before .after .given .0 .0
+moved-on c = forward (c .before .before .before .before .before .before .before .before .before .before .before .before .before .before .before .before .before .before .before .before .before .before .before .before .before .before .loop .inv .6) (c .before .before .before .before .before .before .before .before .before .before .before .before .before .before .before .before .before .before .before .before .before .before .before .before .before .loop-test .taken) (sym (c .before .before .before .before .before .before .before .before .before .before .before .before .before .before .before .before .before .before .before .before .before .before .call .given .1) ∙ c .before .before .before .before .before .before .before .before .before .before .before .before .before .before .before .before .before .before .before .before .before .before .before .before .read-call .ensures) (c .before .before .before .before .before .before .before .before .before .before .before .before .before .before .before .before .before .before .before .before .before .before .before .before .before .before .loop .q) refl (λ q. stateOf (c .before .before .before .before .before .before .before .before .before .before .before .before .before .before .before .before .before .before .before .before .before .before .before .before .before .before .before .before .before .before .before .before .before .before .before .before .before .args .frame) q (now (c .before .before .before .before .before .before .before .before .before .before .before .before .before .before .before .before .before .before .before .before .before .before .before .before .before .before .before .before .before .before .before .before .before .before .before .before .before .args .ry)) (now (c .before .before .before .before .before .before .before .before .before .before .before .before .before .before .before .before .before .before .before .before .before .before .before .before .before .before .before .before .before .before .before .before .before .before .before .before .before .args .rcb)) (now (c .before .before .before .before .before .before .before .before .before .before .before .before .before .before .before .before .before .before .before .before .before .before .before .before .before .before .before .before .before .before .before .before .before .before .before .before .before .args .rcr)) (c .before .before .before .before .before .before .before .before .before .before .before .before .before .before .decode-inter-mb .last .0) (c .before .before .before .before .before .before .before .before .before .before .before .before .before .before .decode-inter-mb .last .1 .0) (c .before .before .before .before .before .before .before .before .before .before .before .before .before .before .decode-inter-mb .last .1 .1 .0) (c .before .before .before .before .before .before .before .before .before .before .before .before .before .before .decode-inter-mb .last .1 .1 .1 .0) (c .before .before .before .before .before .before .before .before .before .before .before .before .before .before .decode-inter-mb .last .1 .1 .1 .1 .0)) (c .before .before .before .before .before .before .before .before .before .before .before .before .before .before .decode-inter-mb .result) (c .before .before .before .before .before .before .before .before .before .before .before .before .before .before .decode-inter-mb .last .1 .1 .1 .1 .1 .0) (c .before .before .before .before .before .before .before .before .before .before .before .before .before .before .decode-inter-mb .ensures) (c .before .after .given .1)
+
+sub-consumed : tie.Need-sub-consumed Inv-loop μ-loop
+sub-consumed c = omega (arith, c .before .before .before .before .before .before .before .before .before .before .before .before .before .before .before .before .before .before .before .before .before .before .before .before .before .before .loop .inv .6 .onward, moved-on c)
+
+add-consumed : tie.Need-add-consumed Inv-loop μ-loop
+add-consumed c =
+    let h : c .before .after .given .0 .0 < 2 ^ 64 = c .known-told2 .given .0 .1 in
+    omega (arith, c .before .before .before .before .before .before .before .before .before .before .before .before .before .before .before .before .before .before .before .before .before .before .before .before .before .before .loop .inv .6 .onward, c .before .before .before .before .before .before .before .before .before .before .before .before .before .before .before .before .before .before .before .before .before .before .before .before .before .before .loop .inv .6 .counted, moved-on c, h)
+
 add-accepted : tie.Need-add-accepted Inv-loop μ-loop
 add-accepted c = omega (arith, c .before .before .before .before .before .before .before .before .before .before .before .before .before .before .before .before .before .before .before .before .before .before .before .before .before .before .loop .inv .6 .few, c .before .before .before .before .before .before .before .before .before .before .before .before .before .before .before .before .before .before .before .before .before .before .before .before .before .loop-test .taken, c .before .before .before .before .before .before .before .before .before .before .before .before .before .before .before .before .before .before .before .before .before .before .before .before .before .before .before .before .before .before .before .before .before .before .before .before .before .good .1 .1 .1 .1 .1 .1 .1 .1 .1 .1 .0 .0)
 
@@ -77,7 +89,7 @@ enum-known-why : tie.Need-enum-known-why Inv-loop μ-loop
 enum-known-why c = search needs
 
 report-of-requires-2 : tie.Need-report-of-requires-2 Inv-loop μ-loop
-report-of-requires-2 c κs = omega (arith, c .before .before .before .before .before .before .before .before .before .before .before .before .before .before .before .before .before .before .before .before .before .before .before .before .before .before .loop .inv .6 .onward)
+report-of-requires-2 c κs = tt
 
 same-length-7 : tie.Need-same-length-7 Inv-loop μ-loop
 same-length-7 c = c .before .before .before .before .before .before .before .before .before .before .before .before .before .before .before .decode-inter-mb .kept .0 ∙ c .before .before .before .before .before .before .before .before .before .before .before .before .before .before .before .before .before .before .before .before .before .before .before .before .before .before .before .loop .inv .0
@@ -101,7 +113,7 @@ returns-2 : tie.Need-returns-2 Inv-loop μ-loop
 returns-2 c = ap (λ (r : Report). record { report = r; state = stateOf (c .before .before .before .before .before .before .before .before .before .before .before .before .before .before .before .before .before .before .before .before .before .before .before .before .before .before .before .before .before .before .before .before .before .before .before .before .before .before .args .frame) (r .quantiser) (now (c .before .before .before .before .before .before .before .before .before .before .before .before .before .before .before .before .before .before .before .before .before .before .before .before .before .before .before .before .before .before .before .before .before .before .before .before .before .before .args .ry)) (now (c .before .before .before .before .before .before .before .before .before .before .before .before .before .before .before .before .before .before .before .before .before .before .before .before .before .before .before .before .before .before .before .before .before .before .before .before .before .before .args .rcb)) (now (c .before .before .before .before .before .before .before .before .before .before .before .before .before .before .before .before .before .before .before .before .before .before .before .before .before .before .before .before .before .before .before .before .before .before .before .before .before .before .args .rcr)) (c .before .before .before .before .before .before .before .before .before .before .before .before .before .before .before .decode-inter-mb .last .0) (c .before .before .before .before .before .before .before .before .before .before .before .before .before .before .before .decode-inter-mb .last .1 .0) (c .before .before .before .before .before .before .before .before .before .before .before .before .before .before .before .decode-inter-mb .last .1 .1 .0) (c .before .before .before .before .before .before .before .before .before .before .before .before .before .before .before .decode-inter-mb .last .1 .1 .1 .0) (c .before .before .before .before .before .before .before .before .before .before .before .before .before .before .before .decode-inter-mb .last .1 .1 .1 .1 .0); transcript = c .before .before .before .before .before .before .before .before .before .before .before .before .before .before .before .decode-inter-mb .last .1 .1 .1 .1 .1 .0 }) (c .report-of2 .ensures) ∙ stopped (c .before .before .before .before .before .before .before .before .before .before .before .before .before .before .before .before .before .before .before .before .before .before .before .before .before .before .before .loop .inv .6) (c .before .before .before .before .before .before .before .before .before .before .before .before .before .before .before .before .before .before .before .before .before .before .before .before .before .before .loop-test .taken) (sym (c .before .before .before .before .before .before .before .before .before .before .before .before .before .before .before .before .before .before .before .before .before .before .before .call .given .1) ∙ c .before .before .before .before .before .before .before .before .before .before .before .before .before .before .before .before .before .before .before .before .before .before .before .before .before .read-call .ensures) (c .before .before .before .before .before .before .before .before .before .before .before .before .before .before .before .before .before .before .before .before .before .before .before .before .before .before .before .loop .q) refl (λ q. stateOf (c .before .before .before .before .before .before .before .before .before .before .before .before .before .before .before .before .before .before .before .before .before .before .before .before .before .before .before .before .before .before .before .before .before .before .before .before .before .before .args .frame) q (now (c .before .before .before .before .before .before .before .before .before .before .before .before .before .before .before .before .before .before .before .before .before .before .before .before .before .before .before .before .before .before .before .before .before .before .before .before .before .before .args .ry)) (now (c .before .before .before .before .before .before .before .before .before .before .before .before .before .before .before .before .before .before .before .before .before .before .before .before .before .before .before .before .before .before .before .before .before .before .before .before .before .before .args .rcb)) (now (c .before .before .before .before .before .before .before .before .before .before .before .before .before .before .before .before .before .before .before .before .before .before .before .before .before .before .before .before .before .before .before .before .before .before .before .before .before .before .args .rcr)) (c .before .before .before .before .before .before .before .before .before .before .before .before .before .before .before .decode-inter-mb .last .0) (c .before .before .before .before .before .before .before .before .before .before .before .before .before .before .before .decode-inter-mb .last .1 .0) (c .before .before .before .before .before .before .before .before .before .before .before .before .before .before .before .decode-inter-mb .last .1 .1 .0) (c .before .before .before .before .before .before .before .before .before .before .before .before .before .before .before .decode-inter-mb .last .1 .1 .1 .0) (c .before .before .before .before .before .before .before .before .before .before .before .before .before .before .before .decode-inter-mb .last .1 .1 .1 .1 .0)) (c .before .before .before .before .before .before .before .before .before .before .before .before .before .before .before .decode-inter-mb .result) (c .before .before .before .before .before .before .before .before .before .before .before .before .before .before .before .decode-inter-mb .last .1 .1 .1 .1 .1 .0) (c .before .before .before .before .before .before .before .before .before .before .before .before .before .before .before .decode-inter-mb .ensures) (c .before .before .why .given .1)
 
 report-of-requires-3 : tie.Need-report-of-requires-3 Inv-loop μ-loop
-report-of-requires-3 c κs = omega (arith, c .before .loop .inv .6 .onward)
+report-of-requires-3 c κs = tt
 
 same-length-13 : tie.Need-same-length-13 Inv-loop μ-loop
 same-length-13 c = c .before .before .loop .inv .0
@@ -144,6 +156,8 @@ run-calls-spec =
     returns
     decode-inter-mb-requires
     enum-known-after
+    sub-consumed
+    add-consumed
     add-accepted
     loop-less
     loop-again

@@ -1,0 +1,80 @@
+-- THE PREMISE OF UNIQUE READING IS NEEDED: two runs from one start that clip a component have one transcript and consumed different bits.
+-- Assumes nothing.
+use mathlib.Core.Path.{_≡_, refl, ap, _∙_, sym}
+use mathlib.Core.Bool.{Bool, true, false, false≢true}
+use mathlib.Core.List.{List, [], _∷_}
+use Prim.Native.Nat.{ℕ}
+use lib.IntN.{pos}
+use lib.ListN.{length, replicate, getD}
+use Rattle.ints.specs.Z.{if_then_else_, floorZ, satZ, overZ, clampZ, minZ, maxZ, medianZ}
+use Rattle.bits.specs.Bits.{bitList}
+use Rattle.bits.specs.Code.{codeFrom, code}
+use Rattle.bits.specs.Signed.{signedOf, signedCode}
+use Rattle.number.specs.Number.{groups, number, lowThen, readNumber}
+use Rattle.number.specs.SignedNumber.{sent, signedNumber}
+use Rattle.residual.specs.Pattern.{patterns, pattern, quadrantCoded}
+use Rattle.vectors.specs.Modes.{partitionWidth, partitionHeight, numMotionVectors, offsetX, offsetY}
+use Rattle.vectors.specs.Precision.{precision}
+use Rattle.predict.specs.Predict.{cellAt, nearAt, leftOf, aboveOf, aboveLeftOf, medianOf, combined, predicted, heldIn, predictor}
+use Rattle.predict.specs.Units.{roundToSixths, convertPredictor, summed, scaled, storedPart, clippedPart}
+use Rattle.lists.specs.Until.{untilEnd}
+use Rattle.record.specs.Record.{noVectors, noLevels}
+use Rattle.record.specs.Items.{itemCoded, readLists, writeLists, readItems}
+use Rattle.record.specs.Write.{signedNumbers, itemBytes, itemsBytes, restBytes, recordBytes}
+use Rattle.questions.specs.Questions.{gridRight, planesRight, stateRight, referenceThere, callRight, askStart, askQuantiser, askPlace, askRest, askCall}
+use Rattle.calls.specs.Calls.{callIn, callsIn, calls}
+use Rattle.reading.specs.Read.{predictorAt, moved, readVectors, quantiserIn, readQuantiser, recordOf, atFirst, readResidual, readCoded, readMacroblock}
+use Rattle.outcome.specs.State.{State}
+use Rattle.outcome.specs.Decode.{outcomeOf, decoded}
+use Rattle.report.specs.Run.{Ran, ended, withCall, ranFrom, ran, ranList, transcriptOf, consumed}
+
+-- one macroblock, full pel, quantiser 5
+unfoldable pub one : State
+one = record {
+  cols = 1;
+  rows = 1;
+  halfpel = false;
+  thirdpel = false;
+  delta = false;
+  quantiser = 5;
+  ry = replicate 256 128;
+  rcb = replicate 64 128;
+  rcr = replicate 64 128;
+  y = replicate 256 0;
+  cb = replicate 64 0;
+  cr = replicate 64 0;
+  mv = replicate 32 (pos 0);
+  marks = replicate 16 0;
+}
+
+-- 1 vertical 0, horizontal +400,000,000 or +400,000,001, 1 pattern 0: six times either leaves i32, and both are held at its limit
+unfoldable pub less : List ℕ
+less = 138 ∷ 168 ∷ 138 ∷ 160 ∷ 8 ∷ 0 ∷ 0 ∷ 24 ∷ []
+
+unfoldable pub more : List ℕ
+more = 138 ∷ 168 ∷ 138 ∷ 160 ∷ 8 ∷ 0 ∷ 0 ∷ 152 ∷ []
+
+-- the run of the call 0, 0, mode 1
+unfoldable pub clippedRun : List ℕ → Ran
+clippedRun bits = ranList one (0 ∷ 0 ∷ 1 ∷ []) bits 0 (replicate 2089 0)
+
+-- both: the call is accepted, and its record is 0000010001feffffff0f000005
+unfoldable pub clippedBytes : List ℕ
+clippedBytes = 0 ∷ 0 ∷ 1 ∷ 0 ∷ 1 ∷ 254 ∷ 255 ∷ 255 ∷ 255 ∷ 15 ∷ 0 ∷ 0 ∷ 5 ∷ []
+
+-- the transcript, the number of consumed bits, and bit 56 of them
+pub record Left (bits : List ℕ) (last : Bool) : Type 0 where
+  pub bytes : transcriptOf (clippedRun bits) ≡ clippedBytes
+  pub taken : length (consumed bits 0 (clippedRun bits)) ≡ 61
+  pub last-bit : getD (consumed bits 0 (clippedRun bits)) 56 false ≡ last
+
+left-less : Left less false
+unfolding clippedBytes one less more clippedRun ranList ran ranFrom ended withCall transcriptOf decoded outcomeOf askCall askStart askQuantiser askPlace askRest gridRight planesRight stateRight referenceThere callRight calls callsIn callIn untilEnd if_then_else_ floorZ satZ overZ clampZ minZ maxZ medianZ bitList codeFrom code signedOf signedCode groups number lowThen readNumber sent signedNumber patterns pattern quadrantCoded partitionWidth partitionHeight numMotionVectors offsetX offsetY precision cellAt nearAt leftOf aboveOf aboveLeftOf medianOf combined predicted heldIn predictor roundToSixths convertPredictor summed scaled storedPart clippedPart noVectors noLevels itemCoded readLists writeLists readItems signedNumbers itemBytes itemsBytes restBytes recordBytes predictorAt moved readVectors quantiserIn readQuantiser recordOf atFirst readResidual readCoded readMacroblock consumed
+left-less = record { bytes = refl; taken = refl; last-bit = refl }
+
+left-more : Left more true
+unfolding clippedBytes one less more clippedRun ranList ran ranFrom ended withCall transcriptOf decoded outcomeOf askCall askStart askQuantiser askPlace askRest gridRight planesRight stateRight referenceThere callRight calls callsIn callIn untilEnd if_then_else_ floorZ satZ overZ clampZ minZ maxZ medianZ bitList codeFrom code signedOf signedCode groups number lowThen readNumber sent signedNumber patterns pattern quadrantCoded partitionWidth partitionHeight numMotionVectors offsetX offsetY precision cellAt nearAt leftOf aboveOf aboveLeftOf medianOf combined predicted heldIn predictor roundToSixths convertPredictor summed scaled storedPart clippedPart noVectors noLevels itemCoded readLists writeLists readItems signedNumbers itemBytes itemsBytes restBytes recordBytes predictorAt moved readVectors quantiserIn readQuantiser recordOf atFirst readResidual readCoded readMacroblock consumed
+left-more = record { bytes = refl; taken = refl; last-bit = refl }
+
+pub clipped_runs : (transcriptOf (clippedRun less) ≡ transcriptOf (clippedRun more)) × (consumed less 0 (clippedRun less) ≡ consumed more 0 (clippedRun more) → ⊥)
+clipped_runs = (left-less .bytes ∙ sym (left-more .bytes), λ e. false≢true (sym (left-less .last-bit) ∙ ap (λ (l : List Bool). getD l 56 false) e ∙ left-more .last-bit))
