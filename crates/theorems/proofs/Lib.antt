@@ -4,3 +4,6 @@ pub mod Paths
 pub mod UniqueReading
 pub mod ReplayOfRun
 pub mod SixteenCases
+pub mod Painted
+pub mod Macroblocks
+pub mod Outside

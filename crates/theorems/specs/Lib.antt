@@ -1,1 +1,3 @@
 pub mod Trace
+pub mod Samples
+pub mod Outside
