@@ -6,4 +6,5 @@ pub mod ReplayOfRun
 pub mod SixteenCases
 pub mod Painted
 pub mod Macroblocks
+pub mod Samples
 pub mod Outside

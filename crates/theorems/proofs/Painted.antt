@@ -13,9 +13,9 @@ use lib.Dec.{ltb}
 use lib.IntN.{ℤ, pos, _+ℤ_}
 use lib.ListN.{length, getD, List·getD-eq-default}
 use Rattle.ints.specs.Z.{if_then_else_, clip1Z}
-use Rattle.picture.specs.Painted.{within, inside, painted}
+use Rattle.picture.specs.Painted.{within, inside, painted, Inside}
 use Rattle.picture.specs.Picture.{seen}
-use Rattle.picture.proofs.Laws.{each-at, both-true, within-true, within-in, painted-length, painted-other}
+use Rattle.picture.proofs.Laws.{more, each-at, both-true, within-true, within-in, painted-length, painted-other}
 use Rattle.transform.specs.Added.{raised, added}
 use Rattle.theorems.specs.Outside.{Outside}
 
@@ -62,6 +62,13 @@ outside-painted s x y w h x′ y′ w′ h′ v l a b c d =
     record { size = painted-length s x′ y′ w′ h′ v l; same = λ k e q. painted-others s x′ y′ w′ h′ v l k e (inside-larger s x y w h x′ y′ w′ h′ k a b c d q) }
 
 -- ---- at column X of row Y
+
+-- of a rectangle that lies in a plane
+pub place-fits : {s x y w h size X Y : ℕ} → Inside s x y w h size → X < x + w → Y < y + h → (X < s) × (Y * s + X < size)
+place-fits {s} {x} {y} {w} {h} {size} {X} {Y} i a b =
+    let m : Y * s + s ≤ (y + h) * s = more s b in
+    (omega (arith, i .across), omega (arith, i .across, i .down))
+
 module _ {A : Type 0} (s x y w h : ℕ) (v : ℕ → ℕ → A) (l : List A) (X Y : ℕ) (e : A) (lt : X < s) where
   inside-at : inside s x y w h (Y * s + X) ≡ (within x w X && within y h Y)
   unfolding inside
