@@ -1,22 +1,21 @@
 -- The partitions and the blocks of one macroblock: they change nothing outside it, and each place in it once.
 -- Assumes nothing.
-use mathlib.Core.Path.{_≡_, refl, sym, ap, _∙_, subst}
+use mathlib.Core.Path.{_≡_, refl, sym, ap, _∙_}
 use mathlib.Core.Logic.{_≢_}
 use mathlib.Core.Bool.{Bool, true, false}
 use mathlib.Core.List.{List}
 use Prim.Native.Nat.{ℕ, zero, suc, _+_, _-_, _*_, _/_, _%_, _≤_, _<_}
-use native.Mathlib.Nat.{div-one, le-trans}
+use native.Mathlib.Nat.{div-one}
 use native.Mathlib.Omega.{arith}
 use lib.Dec.{eqb, lit≤, eqb→eq}
 use lib.IntN.{ℤ, pos, _+ℤ_}
 use lib.ListN.{length, getD}
 use Rattle.ints.specs.Z.{if_then_else_, towardZero, clip1Z}
-use Rattle.picture.specs.Painted.{painted}
 use Rattle.picture.specs.Picture.{filled}
 use Rattle.compensation.specs.Sample.{sampleAt, sixths, blockSample}
 use Rattle.transform.specs.Tables.{dequantCoeff, chromaCoeff}
 use Rattle.transform.specs.Residual.{placed, residual}
-use Rattle.transform.specs.Added.{raised, added}
+use Rattle.transform.specs.Added.{added}
 use Rattle.residual.specs.Pattern.{quadrantCoded}
 use Rattle.residual.proofs.Table.{at}
 use Rattle.vectors.specs.Modes.{partitionWidth, partitionHeight, numMotionVectors, offsetX, offsetY}
@@ -27,22 +26,26 @@ use Rattle.questions.specs.declared.Call.{Call}
 use Rattle.record.specs.declared.Head.{Head}
 use Rattle.record.specs.Items.{itemCoded, itemPlace}
 use Rattle.record.proofs.ListKinds.{is-luma}
-use Rattle.reading.specs.Read.{cellX, cellY, cellsWide, cellsHigh, storedAt}
+use Rattle.reading.specs.Read.{storedAt}
 use Rattle.moving.specs.Moved.{vectorX, vectorY, unit, partX, partY, movedBlock, movedOnce, movedUpTo}
 use Rattle.adding.specs.Blocks.{cellOfBlock, lumaUpTo, dcOf, chromaUpTo}
 use Rattle.apply.specs.Apply.{storedUpTo}
 use Rattle.theorems.specs.Samples.{quadrantAt, lumaBlockAt, chromaBlockAt}
 use Rattle.theorems.specs.Outside.{Outside}
-use Rattle.theorems.proofs.Painted.{by-test, outside-same, outside-then, outside-painted, painted-here, painted-elsewhere, added-here, added-elsewhere, once}
+use Rattle.theorems.proofs.Painted.{Among, Covers, by-test, if-at, outside-same, outside-then, outside-painted, painted-here, painted-elsewhere, added-here, added-elsewhere, once}
 
--- ---- partition i lies in its macroblock
-pub record PartIn (u : ℕ) (call : Call) (i : ℕ) : Type 0 where
-  pub left : 16 / u * call .column ≤ partX u call i
-  pub right : partX u call i + partitionWidth (call .mode) / u ≤ 16 / u * call .column + 16 / u
-  pub top : 16 / u * call .row ≤ partY u call i
-  pub bottom : partY u call i + partitionHeight (call .mode) / u ≤ 16 / u * call .row + 16 / u
+-- ---- the rectangles of a macroblock, n samples wide and high, and of partition i
+abbrev pub SquareCovers : ℕ → ℕ → ℕ → ℕ → ℕ → ℕ → ℕ → Type 0
+SquareCovers n column row = Covers (n * column) (n * row) n n
 
-pub part-in : (chroma : Bool) (call : Call) (i : ℕ) → call .mode ≤ 7 → i < numMotionVectors (call .mode) → PartIn (unit chroma) call i
+abbrev pub SquareHolds : ℕ → ℕ → ℕ → ℕ → ℕ → Type 0
+SquareHolds n column row = Among (n * column) (n * row) n n
+
+abbrev pub PartHolds : ℕ → Call → ℕ → ℕ → ℕ → Type 0
+PartHolds u call i = Among (partX u call i) (partY u call i) (partitionWidth (call .mode) / u) (partitionHeight (call .mode) / u)
+
+pub part-in : (chroma : Bool) (call : Call) (i : ℕ) → call .mode ≤ 7 → i < numMotionVectors (call .mode)
+    → let u = unit chroma in SquareCovers (16 / u) (call .column) (call .row) (partX u call i) (partY u call i) (partitionWidth (call .mode) / u) (partitionHeight (call .mode) / u)
 unfolding partX partY
 part-in true call i m l = let p = inside-units 1 (call .mode) i (lit≤ tt) m l in record { left = omega arith; right = omega arith; top = omega arith; bottom = omega arith }
 part-in false call i m l =
@@ -58,8 +61,7 @@ pub moved-outside : (chroma : Bool) (n cols rows : ℕ) (ref : List ℕ) (call :
 unfolding movedUpTo movedOnce
 moved-outside chroma zero cols rows ref call vs pic m l = outside-same pic
 moved-outside chroma (suc n) cols rows ref call vs pic m l =
-    let p = part-in chroma call n m l in
-    outside-then (moved-outside chroma n cols rows ref call vs pic m (omega arith)) (outside-painted _ _ _ _ _ _ _ _ _ _ _ (p .left) (p .right) (p .top) (p .bottom))
+    outside-then (moved-outside chroma n cols rows ref call vs pic m (omega arith)) (outside-painted _ _ (part-in chroma call n m l))
 
 -- ---- the cell of a luma block
 rightColumn : ℕ → Bool
@@ -86,13 +88,13 @@ luma-outside zero cols h levels pic l = outside-same pic
 luma-outside (suc n) cols h levels pic l =
     let c = cell-small n l in
     outside-then (luma-outside n cols h levels pic (omega arith))
-    (by-test (Outside _ _ _ _ _ _) (itemCoded (h .pattern) n) (outside-painted _ _ _ _ _ _ _ _ _ _ _ (omega arith) (omega arith) (omega arith) (omega arith)) (outside-same _))
+    (by-test (Outside _ _ _ _ _ _) (itemCoded (h .pattern) n) (outside-painted _ _ (record { left = omega arith; right = omega arith; top = omega arith; bottom = omega arith })) (outside-same _))
 
 pub chroma-outside : (n plane cols : ℕ) (h : Head) (levels : List ℤ) (pic : List ℕ) → n ≤ 4 → Outside (8 * cols) (8 * h .column) (8 * h .row) 8 8 pic (chromaUpTo n plane cols h levels pic)
 unfolding chromaUpTo added
 chroma-outside zero plane cols h levels pic l = outside-same pic
 chroma-outside (suc n) plane cols h levels pic l =
-    outside-then (chroma-outside n plane cols h levels pic (omega arith)) (outside-painted _ _ _ _ _ _ _ _ _ _ _ (omega arith) (omega arith) (omega arith) (omega arith))
+    outside-then (chroma-outside n plane cols h levels pic (omega arith)) (outside-painted _ _ (record { left = omega arith; right = omega arith; top = omega arith; bottom = omega arith }))
 
 -- ---- vectors and marks
 pub record FieldOutside (column row : ℕ) (f g : Field) : Type 0 where
@@ -100,12 +102,12 @@ pub record FieldOutside (column row : ℕ) (f g : Field) : Type 0 where
   pub vectors : Outside (2 * (4 * f .cols)) (2 * (4 * column)) (4 * row) 8 4 (f .mv) (g .mv)
   pub marks : Outside (4 * f .cols) (4 * column) (4 * row) 4 4 (f .marks) (g .marks)
 
-pub field-stored : (column row x y wide high : ℕ) (f : Field) (vx vy : ℤ) → 4 * column ≤ x → x + wide ≤ 4 * column + 4 → 4 * row ≤ y → y + high ≤ 4 * row + 4 → FieldOutside column row f (storedField f x y wide high vx vy)
+pub field-stored : (column row x y wide high : ℕ) (f : Field) (vx vy : ℤ) → SquareCovers 4 column row x y wide high → FieldOutside column row f (storedField f x y wide high vx vy)
 unfolding storedField storedVectors storedMarks filled
-field-stored column row x y wide high f vx vy a b c d = record {
+field-stored column row x y wide high f vx vy c = record {
   cols = refl;
-  vectors = outside-painted _ _ _ _ _ _ _ _ _ _ _ (omega arith) (omega arith) c d;
-  marks = outside-painted _ _ _ _ _ _ _ _ _ _ _ a b c d;
+  vectors = outside-painted _ _ (record { left = omega arith; right = omega arith; top = c .top; bottom = c .bottom });
+  marks = outside-painted _ _ c;
 }
 
 field-then : {column row : ℕ} {f g h : Field} → FieldOutside column row f g → FieldOutside column row g h → FieldOutside column row f h
@@ -116,27 +118,9 @@ unfolding storedUpTo storedAt
 stored-outside zero call vs f m l = record { cols = refl; vectors = outside-same (f .mv); marks = outside-same (f .marks) }
 stored-outside (suc n) call vs f m l =
     let p = inside-units 2 (call .mode) n (lit≤ tt) m l in
-    field-then (stored-outside n call vs f m (omega arith)) (field-stored _ _ _ _ _ _ _ _ _ (omega arith) (omega arith) (omega arith) (omega arith))
+    field-then (stored-outside n call vs f m (omega arith)) (field-stored _ _ _ _ _ _ _ _ _ (record { left = omega arith; right = omega arith; top = omega arith; bottom = omega arith }))
 
--- ---- AT ONE PLACE, column X of row Y: the partition that holds it says what compensation leaves there
-pub record PartHolds (u : ℕ) (call : Call) (i X Y : ℕ) : Type 0 where
-  pub left : partX u call i ≤ X
-  pub right : X < partX u call i + partitionWidth (call .mode) / u
-  pub top : partY u call i ≤ Y
-  pub bottom : Y < partY u call i + partitionHeight (call .mode) / u
-
--- a macroblock of n × n samples holds what its partitions hold
-pub record SquareHolds (n column row X Y : ℕ) : Type 0 where
-  pub left : n * column ≤ X
-  pub right : X < n * column + n
-  pub top : n * row ≤ Y
-  pub bottom : Y < n * row + n
-
-pub part-square : (chroma : Bool) (call : Call) (i X Y : ℕ) → call .mode ≤ 7 → i < numMotionVectors (call .mode) → PartHolds (unit chroma) call i X Y → SquareHolds (16 / unit chroma) (call .column) (call .row) X Y
-part-square chroma call i X Y m l p =
-    let q = part-in chroma call i m l in
-    record { left = le-trans (q .left) (p .left); right = le-trans (p .right) (q .right); top = le-trans (q .top) (p .top); bottom = le-trans (p .bottom) (q .bottom) }
-
+-- ---- at column X of row Y: the partition that holds it says what compensation leaves there
 held : (chroma : Bool) (call : Call) (i X Y : ℕ) → PartHolds (unit chroma) call i X Y → Holds (unit chroma) (call .mode) i (X - 16 / unit chroma * call .column) (Y - 16 / unit chroma * call .row)
 unfolding partX partY
 held true call i X Y p = record { left = omega (arith, p .left); right = omega (arith, p .left, p .right); top = omega (arith, p .top); bottom = omega (arith, p .top, p .bottom) }
@@ -168,8 +152,8 @@ moved-at chroma cols rows ref call vs pic i X Y m l p wide fits =
     let ey : partY u call i + (Y - partY u call i) ≡ Y = omega (arith, p .top) in
     once (λ n. getD (there n) (Y * s + X) 0) (λ old. sampleAt ref s (16 / u * rows) (sixths (pos X) (towardZero (vectorX vs i) u)) (sixths (pos Y) (towardZero (vectorY vs i) u)))
     i (numMotionVectors (call .mode)) l
-    (λ n k e. painted-elsewhere s _ _ _ _ _ (there n) X Y 0 wide (λ a b c d. e (same-part chroma call n i X Y m k (record { left = a; right = b; top = c; bottom = d }) p)))
-    (painted-here s _ _ _ _ _ (there i) X Y 0 wide (rw (moved-outside chroma i cols rows ref call vs pic m (omega arith) .size) fits) (p .left) (p .right) (p .top) (p .bottom) ∙ rw (ex, ey))
+    (λ n k e. painted-elsewhere s _ _ _ _ _ (there n) X Y 0 wide (λ a. e (same-part chroma call n i X Y m k a p)))
+    (painted-here s _ _ _ _ _ (there i) X Y 0 wide (rw (moved-outside chroma i cols rows ref call vs pic m (omega arith) .size) fits) p ∙ rw (ex, ey))
 
 -- ---- and the block that holds it, what the residual leaves there
 -- the block of luma column a and row b
@@ -206,12 +190,6 @@ module _ (a b : ℕ) (la : a < 16) (lb : b < 16) where
 
       digits : (a p q : ℕ) → q < 2 → a / 4 ≡ 2 * p + q → (a / 8 ≡ p) × (a / 4 % 2 ≡ q)
       digits a p q h e = (omega arith, omega arith)
-
--- at a place of one of two planes, by a test
-pub if-at : (t u : Bool) (l m : List ℕ) (k : ℕ) {z : ℕ} → t ≡ u → getD m k 0 ≡ z → getD (if t then m else l) k 0 ≡ (if u then z else getD l k 0)
-unfolding if_then_else_
-if-at true u l m k e p = rw (← e) p
-if-at false u l m k e p = rw (← e) refl
 
 pub luma-at : (cols : ℕ) (h : Head) (levels : List ℤ) (pic : List ℕ) (X Y : ℕ) → SquareHolds 16 (h .column) (h .row) X Y → X < 16 * cols → Y * (16 * cols) + X < length pic
     → let a = X % 16 in let b = Y % 16 in let v = getD pic (Y * (16 * cols) + X) 0 in
@@ -250,7 +228,7 @@ luma-at cols h levels pic X Y sq wide fits =
 
     other : (n : ℕ) → n < 16 → n ≢ m → getD (there (suc n)) (Y * s + X) 0 ≡ getD (there n) (Y * s + X) 0
     other n l e = by-test (λ (p : List ℕ). getD p (Y * s + X) 0 ≡ getD (there n) (Y * s + X) 0) (itemCoded (h .pattern) n)
-        (added-elsewhere s _ _ _ (there n) X Y wide (λ p q p′ q′. e (block-only a b la lb n l (omega arith) (omega arith))))
+        (added-elsewhere s _ _ _ (there n) X Y wide (λ p. e (block-only a b la lb n l (omega arith) (omega arith))))
         refl
 
     here : getD (there (suc m)) (Y * s + X) 0 ≡ (if quadrantCoded (h .pattern) (quadrantAt a b) then clip1Z (pos (getD (there m) (Y * s + X) 0) +ℤ ours (b % 4) (a % 4)) else getD (there m) (Y * s + X) 0)
@@ -260,7 +238,7 @@ luma-at cols h levels pic X Y sq wide fits =
         let y : Y - (16 * h .row + 4 * (cellOfBlock m / 4)) ≡ b % 4 = omega (arith, c .1) in
         let size = luma-outside m cols h levels pic (omega (arith, among)) .size in
         if-at _ _ (there m) _ (Y * s + X) (is-luma m among .coded (h .pattern) ∙ ap (quadrantCoded (h .pattern)) (block-quadrant a b la lb))
-        (added-here s _ _ ours (there m) X Y wide (rw size fits) (omega (arith, c .0)) (omega (arith, c .0)) (omega (arith, c .1)) (omega (arith, c .1)) ∙ rw (x, y))
+        (added-here s _ _ ours (there m) X Y wide (rw size fits) (record { left = omega (arith, c .0); right = omega (arith, c .0); top = omega (arith, c .1); bottom = omega (arith, c .1) }) ∙ rw (x, y))
 
 pub chroma-at : (plane cols : ℕ) (h : Head) (levels : List ℤ) (pic : List ℕ) (X Y : ℕ) → SquareHolds 8 (h .column) (h .row) X Y → X < 8 * cols → Y * (8 * cols) + X < length pic
     → let a = X % 8 in let b = Y % 8 in let n = chromaBlockAt a b in let v = getD pic (Y * (8 * cols) + X) 0 in
@@ -283,11 +261,11 @@ chroma-at plane cols h levels pic X Y sq wide fits =
     ours = residual (chromaCoeff (h .quantiser)) (dcOf h levels plane m) (placed levels (itemPlace (18 + 4 * plane + m)))
 
     other : (n : ℕ) → n < 4 → n ≢ m → getD (there (suc n)) (Y * s + X) 0 ≡ getD (there n) (Y * s + X) 0
-    other n l e = added-elsewhere s _ _ _ (there n) X Y wide (λ p q p′ q′. e (omega arith))
+    other n l e = added-elsewhere s _ _ _ (there n) X Y wide (λ p. e (omega arith))
 
     here : getD (there (suc m)) (Y * s + X) 0 ≡ clip1Z (pos (getD (there m) (Y * s + X) 0) +ℤ ours (Y % 8 % 4) (X % 8 % 4))
     here =
         let x : X - (8 * h .column + 4 * (m % 2)) ≡ X % 8 % 4 = omega arith in
         let y : Y - (8 * h .row + 4 * (m / 2)) ≡ Y % 8 % 4 = omega arith in
         let size = chroma-outside m plane cols h levels pic (omega arith) .size in
-        added-here s _ _ ours (there m) X Y wide (rw size fits) (omega arith) (omega arith) (omega arith) (omega arith) ∙ rw (x, y)
+        added-here s _ _ ours (there m) X Y wide (rw size fits) (record { left = omega arith; right = omega arith; top = omega arith; bottom = omega arith }) ∙ rw (x, y)

@@ -1,20 +1,16 @@
 -- OUTSIDE: whatever the state, the call, the bits and the place, accepted or refused: a call changes no sample, vector or mark outside its macroblock, and no sample of the reference.
 -- Assumes nothing.
-use mathlib.Core.Path.{_≡_, refl, sym, ap, subst}
-use mathlib.Core.Bool.{Bool, true, false}
+use mathlib.Core.Path.{_≡_, refl, sym, subst}
+use mathlib.Core.Bool.{true, false}
 use mathlib.Core.List.{List}
 use Prim.Native.Nat.{ℕ, _*_, _/_, _≤_}
 use native.Mathlib.Nat.{le-refl}
-use native.Mathlib.Omega.{arith}
-use borrow.Author.Tests.{eqb-true, eqb-false}
 use lib.Dec.{eqb, ltb}
 use lib.IntN.{pos}
 use lib.ListN.{drop}
-use Rattle.ints.specs.Z.{if_then_else_}
 use Rattle.bits.specs.Bits.{bitList}
 use Rattle.picture.specs.Picture.{copied}
 use Rattle.residual.specs.Pattern.{classOf}
-use Rattle.vectors.specs.Modes.{numMotionVectors}
 use Rattle.predict.specs.Predict.{Field}
 use Rattle.questions.specs.declared.Call.{Call}
 use Rattle.record.specs.Record.{Record}
@@ -23,11 +19,11 @@ use Rattle.reading.proofs.Took.{read-call}
 use Rattle.adding.specs.Blocks.{chromaAdded}
 use Rattle.apply.specs.Apply.{appliedLuma, appliedChroma, appliedField}
 use Rattle.outcome.specs.State.{State, contextOf, fieldOf}
-use Rattle.outcome.specs.Decode.{applied, Outcome, outcomeOf, decoded}
+use Rattle.outcome.specs.Decode.{applied, outcomeOf, decoded}
 use Rattle.theorems.specs.Samples.{Plane, Luma, Cb, Cr, referenceOf, pictureOf, unitOf, widthOf}
 use Rattle.theorems.specs.Outside.{Outside, OutsideMacroblock}
 use Rattle.theorems.proofs.Traces.{Kind, no, yes, kind}
-use Rattle.theorems.proofs.Painted.{by-test, outside-same, outside-then, outside-painted}
+use Rattle.theorems.proofs.Painted.{by-test, covers-itself, outside-same, outside-then, outside-painted}
 use Rattle.theorems.proofs.Macroblocks.{moved-outside, luma-outside, chroma-outside, FieldOutside, field-stored, stored-outside}
 
 -- ---- what a record does
@@ -36,14 +32,14 @@ module _ (r : Record) (m : r .head .mode ≤ 7) where
   unfolding appliedLuma copied
   luma-applied cols rows ref pic =
       by-test (Outside _ _ _ _ _ _) (eqb (r .head .mode) 0)
-      (outside-painted _ _ _ _ _ _ _ _ _ _ _ (le-refl _) (le-refl _) (le-refl _) (le-refl _))
+      (outside-painted _ _ (covers-itself _ _ _ _))
       (outside-then (moved-outside false _ cols rows ref (callOf r) (r .vectors) pic m (le-refl _)) (luma-outside 16 cols (r .head) (r .levels) _ (le-refl 16)))
 
   chroma-applied : (plane cols rows : ℕ) (ref pic : List ℕ) → Outside (8 * cols) (8 * r .head .column) (8 * r .head .row) 8 8 pic (appliedChroma plane cols rows ref r pic)
   unfolding appliedChroma chromaAdded copied
   chroma-applied plane cols rows ref pic =
       by-test (Outside _ _ _ _ _ _) (eqb (r .head .mode) 0)
-      (outside-painted _ _ _ _ _ _ _ _ _ _ _ (le-refl _) (le-refl _) (le-refl _) (le-refl _))
+      (outside-painted _ _ (covers-itself _ _ _ _))
       (outside-then (moved-outside true _ cols rows ref (callOf r) (r .vectors) pic m (le-refl _))
       (by-test (Outside _ _ _ _ _ _) (ltb 0 (classOf (r .head .pattern))) (chroma-outside 4 plane cols (r .head) (r .levels) _ (le-refl 4)) (outside-same _)))
 
@@ -51,7 +47,7 @@ module _ (r : Record) (m : r .head .mode ≤ 7) where
   unfolding appliedField
   field-applied f =
       by-test (FieldOutside _ _ f) (eqb (r .head .mode) 0)
-      (field-stored _ _ _ _ _ _ f (pos 0) (pos 0) (le-refl _) (le-refl _) (le-refl _) (le-refl _))
+      (field-stored _ _ _ _ _ _ f (pos 0) (pos 0) (covers-itself _ _ _ _))
       (stored-outside _ (callOf r) (r .vectors) f m (le-refl _))
 
   applied-outside : (s : State) → OutsideMacroblock (r .head .column) (r .head .row) s (applied s r)

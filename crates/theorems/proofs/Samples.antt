@@ -6,21 +6,19 @@
 -- Assumes nothing.
 use mathlib.Core.Path.{_≡_, refl, sym, ap, _∙_, subst}
 use mathlib.Core.Logic.{_≢_}
-use mathlib.Core.Bool.{Bool, true, false}
+use mathlib.Core.Bool.{true, false}
 use mathlib.Core.List.{List}
-use Prim.Native.Nat.{ℕ, zero, suc, _+_, _-_, _*_, _/_, _%_, _^_, _≤_, _<_}
-use native.Mathlib.Nat.{le-refl, add-assoc, zero-div}
+use Prim.Native.Nat.{ℕ, _+_, _*_, _/_, _%_, _^_, _≤_, _<_}
+use native.Mathlib.Nat.{le-refl, zero-div}
 use native.Mathlib.Omega.{arith}
-use borrow.Author.Tests.{ne-eqb}
-use lib.Dec.{eqb, ltb, lit<}
+use lib.Dec.{ltb, lit<}
 use lib.IntN.{pos, _+ℤ_}
 use lib.ListN.{length, drop, getD}
-use Rattle.refusal.specs.Got.{Got, got}
+use Rattle.refusal.specs.Got.{got}
 use Rattle.refusal.proofs.Formats.{got-value}
 use Rattle.ints.specs.Z.{if_then_else_, towardZero, clip1Z}
 use Rattle.bits.specs.Bits.{bitList}
 use Rattle.picture.specs.Painted.{Inside}
-use Rattle.picture.specs.Picture.{seen, copied}
 use Rattle.picture.proofs.Laws.{macroblock-inside}
 use Rattle.vectors.specs.Modes.{partitionWidth, partitionHeight, numMotionVectors}
 use Rattle.compensation.specs.Sample.{sampleAt, sixths}
@@ -33,18 +31,17 @@ use Rattle.record.specs.Record.{Record}
 use Rattle.reading.specs.Read.{readMacroblock}
 use Rattle.reading.specs.Bits.{callOf}
 use Rattle.reading.proofs.Took.{read-call}
-use Rattle.moving.specs.Moved.{vectorX, vectorY, unit, partX, partY, movedUpTo}
+use Rattle.moving.specs.Moved.{vectorX, vectorY, partX, partY, movedUpTo}
 use Rattle.adding.specs.Blocks.{chromaAdded}
-use Rattle.apply.specs.Apply.{appliedLuma, appliedChroma}
+use Rattle.apply.specs.Apply.{appliedChroma}
 use Rattle.apply.proofs.Macroblocks.{skip-luma, coded-luma, skip-chroma, coded-chroma}
 use Rattle.outcome.specs.State.{State, contextOf, lengthsOf}
 use Rattle.outcome.specs.Decode.{applied, Outcome, outcomeOf, decoded}
 use Rattle.outcome.specs.declared.MbAnswer.the-variants.{Accepted}
 use Rattle.theorems.specs.Samples.{Plane, Luma, Cb, Cr, referenceOf, pictureOf, unitOf, widthOf, heightOf, pictureAt, referenceAt, compensatedAt, ofTaps, quadrantAt, codedAt, lumaResidualAt, chromaResidualAt, withResidualAt}
-use Rattle.theorems.proofs.Ready.{Asks}
 use Rattle.theorems.proofs.Traces.{Kind, no, yes, kind}
-use Rattle.theorems.proofs.Painted.{place-fits, painted-here}
-use Rattle.theorems.proofs.Macroblocks.{PartIn, part-in, PartHolds, SquareHolds, part-square, moved-outside, moved-at, if-at, luma-at, chroma-at}
+use Rattle.theorems.proofs.Painted.{among-larger, place-fits, if-at, copied-here}
+use Rattle.theorems.proofs.Macroblocks.{SquareHolds, PartHolds, part-in, moved-outside, moved-at, luma-at, chroma-at}
 
 -- ---- an accepted call
 pub record Reading (s : State) (call : Call) (bits : List ℕ) (place : ℕ) : Type 0 where
@@ -104,15 +101,6 @@ not-coded Luma r e a b v = rw (ap (λ (p : ℕ). quadrantCoded p (quadrantAt a b
 not-coded Cb r e a b v = rw e
 not-coded Cr r e a b v = rw e
 
--- a copied sample
-copied-here : {st n column row X Y : ℕ} (pic ref : List ℕ) → SquareHolds n column row X Y → (X < st) × (Y * st + X < length pic) → getD (copied pic st (n * column) (n * row) n n ref) (Y * st + X) 0 ≡ getD ref (Y * st + X) 0
-unfolding copied seen
-copied-here {st} {n} {column} {row} {X} {Y} pic ref sq f =
-    let ex : n * column + (X - n * column) ≡ X = omega (arith, sq .left) in
-    let ey : n * row + (Y - n * row) ≡ Y = omega (arith, sq .top) in
-    painted-here st (n * column) (n * row) n n (seen ref st (n * column) (n * row)) pic X Y 0 (f .0) (f .1) (sq .left) (sq .right) (sq .top) (sq .bottom)
-    ∙ rw (add-assoc ((n * row + (Y - n * row)) * st) (n * column) (X - n * column), ex, ey)
-
 -- ---- what a record leaves at one place
 module _ {s : State} {call : Call} {r : Record} {after : State} (g : Applying s call r after) where
   in-plane : (plane : Plane) → let n = 16 / unitOf plane in Inside (widthOf plane s) (n * r .head .column) (n * r .head .row) n n (length (pictureOf plane s))
@@ -121,7 +109,7 @@ module _ {s : State} {call : Call} {r : Record} {after : State} (g : Applying s 
   in-plane Cr = rw (g .sized .picture .cr-right) (macroblock-inside 8 (lit< tt) (g .column) (g .row))
 
   in-square : (plane : Plane) {X Y : ℕ} → SquareHolds (16 / unitOf plane) (r .head .column) (r .head .row) X Y → (X < widthOf plane s) × (Y * widthOf plane s + X < length (pictureOf plane s))
-  in-square plane sq = place-fits (in-plane plane) (sq .right) (sq .bottom)
+  in-square plane sq = place-fits (in-plane plane) sq
 
   -- a chroma plane, Cb 0 or Cr 1
   chroma-sample : (k i X Y : ℕ) (ref pic : List ℕ) → i < numMotionVectors (r .head .mode) → PartHolds 2 (callOf r) i X Y → X < 8 * s .cols → Y * (8 * s .cols) + X < length pic
@@ -129,7 +117,7 @@ module _ {s : State} {call : Call} {r : Record} {after : State} (g : Applying s 
       getD (appliedChroma k (s .cols) (s .rows) ref r pic) (Y * (8 * s .cols) + X) 0 ≡ (if ltb 0 (classOf (r .head .pattern)) then clip1Z (pos v +ℤ chromaResidualAt k r (X % 8) (Y % 8)) else v)
   unfolding chromaAdded chromaResidualAt
   chroma-sample k i X Y ref pic l p wide fits =
-      let sq = part-square true (callOf r) i X Y (g .mode) l p in
+      let sq = among-larger (part-in true (callOf r) i (g .mode) l) p in
       let moved = movedUpTo (numMotionVectors (r .head .mode)) 2 (s .cols) (s .rows) ref (callOf r) (r .vectors) pic in
       let size = moved-outside true (numMotionVectors (r .head .mode)) (s .cols) (s .rows) ref (callOf r) (r .vectors) pic (g .mode) (le-refl _) .size in
       ap (λ (l : List ℕ). getD l (Y * (8 * s .cols) + X) 0) (coded-chroma (s .cols) (s .rows) ref r pic k (some-mode (r .head .mode) i l))
@@ -140,20 +128,20 @@ module _ {s : State} {call : Call} {r : Record} {after : State} (g : Applying s 
       → let n = 16 / unitOf plane in pictureAt plane (applied s r) X Y ≡ withResidualAt plane r (X % n) (Y % n) (compensatedAt plane s r i X Y)
   unfolding pictureAt applied withResidualAt codedAt compensatedAt lumaResidualAt
   record-sample Luma i X Y l p =
-      let sq = part-square false (callOf r) i X Y (g .mode) l p in
+      let sq = among-larger (part-in false (callOf r) i (g .mode) l) p in
       let f = in-square Luma sq in
       let size = moved-outside false (numMotionVectors (r .head .mode)) (s .cols) (s .rows) (s .ry) (callOf r) (r .vectors) (s .y) (g .mode) (le-refl _) .size in
       ap (λ (pic : List ℕ). getD pic (Y * (16 * s .cols) + X) 0) (coded-luma (s .cols) (s .rows) (s .ry) r (s .y) (some-mode (r .head .mode) i l))
       ∙ luma-at (s .cols) (r .head) (r .levels) _ X Y sq (f .0) (rw size (f .1))
       ∙ rw (moved-at false (s .cols) (s .rows) (s .ry) (callOf r) (r .vectors) (s .y) i X Y (g .mode) l p (f .0) (f .1))
-  record-sample Cb i X Y l p = let f = in-square Cb (part-square true (callOf r) i X Y (g .mode) l p) in chroma-sample 0 i X Y (s .rcb) (s .cb) l p (f .0) (f .1)
-  record-sample Cr i X Y l p = let f = in-square Cr (part-square true (callOf r) i X Y (g .mode) l p) in chroma-sample 1 i X Y (s .rcr) (s .cr) l p (f .0) (f .1)
+  record-sample Cb i X Y l p = let f = in-square Cb (among-larger (part-in true (callOf r) i (g .mode) l) p) in chroma-sample 0 i X Y (s .rcb) (s .cb) l p (f .0) (f .1)
+  record-sample Cr i X Y l p = let f = in-square Cr (among-larger (part-in true (callOf r) i (g .mode) l) p) in chroma-sample 1 i X Y (s .rcr) (s .cr) l p (f .0) (f .1)
 
   record-skipped : r .head .mode ≡ 0 → (plane : Plane) (X Y : ℕ) → SquareHolds (16 / unitOf plane) (r .head .column) (r .head .row) X Y → pictureAt plane (applied s r) X Y ≡ referenceAt plane s X Y
   unfolding pictureAt referenceAt applied
-  record-skipped e Luma X Y sq = ap (λ (l : List ℕ). getD l (Y * (16 * s .cols) + X) 0) (skip-luma (s .cols) (s .rows) (s .ry) r (s .y) e) ∙ copied-here (s .y) (s .ry) sq (in-square Luma sq)
-  record-skipped e Cb X Y sq = ap (λ (l : List ℕ). getD l (Y * (8 * s .cols) + X) 0) (skip-chroma (s .cols) (s .rows) (s .rcb) r (s .cb) 0 e) ∙ copied-here (s .cb) (s .rcb) sq (in-square Cb sq)
-  record-skipped e Cr X Y sq = ap (λ (l : List ℕ). getD l (Y * (8 * s .cols) + X) 0) (skip-chroma (s .cols) (s .rows) (s .rcr) r (s .cr) 1 e) ∙ copied-here (s .cr) (s .rcr) sq (in-square Cr sq)
+  record-skipped e Luma X Y sq = ap (λ (l : List ℕ). getD l (Y * (16 * s .cols) + X) 0) (skip-luma (s .cols) (s .rows) (s .ry) r (s .y) e) ∙ (let f = in-square Luma sq in copied-here _ _ _ _ _ (s .ry) (s .y) X Y (f .0) (f .1) sq)
+  record-skipped e Cb X Y sq = ap (λ (l : List ℕ). getD l (Y * (8 * s .cols) + X) 0) (skip-chroma (s .cols) (s .rows) (s .rcb) r (s .cb) 0 e) ∙ (let f = in-square Cb sq in copied-here _ _ _ _ _ (s .rcb) (s .cb) X Y (f .0) (f .1) sq)
+  record-skipped e Cr X Y sq = ap (λ (l : List ℕ). getD l (Y * (8 * s .cols) + X) 0) (skip-chroma (s .cols) (s .rows) (s .rcr) r (s .cr) 1 e) ∙ (let f = in-square Cr sq in copied-here _ _ _ _ _ (s .rcr) (s .cr) X Y (f .0) (f .1) sq)
 
 -- ---- the theorems
 module _ (s : State) (call : Call) (bits : List ℕ) (place : ℕ) (t : List ℕ) (fill : ℕ) {p q f k : ℕ} (accepted : decoded s call bits place t fill .answer ≡ Accepted p q f k) where
