@@ -31,7 +31,7 @@ use Rattle.moving.specs.Moved.{vectorX, vectorY, unit, partX, partY, movedBlock
 use Rattle.adding.specs.Blocks.{cellOfBlock, lumaUpTo, dcOf, chromaUpTo}
 use Rattle.apply.specs.Apply.{storedUpTo}
 use Rattle.theorems.specs.Samples.{quadrantAt, lumaBlockAt, chromaBlockAt}
-use Rattle.theorems.specs.Outside.{Outside}
+use Rattle.theorems.specs.Outside.{Outside, SamplesOutside, VectorsOutside, MarksOutside}
 use Rattle.theorems.proofs.Painted.{Among, Covers, by-test, if-at, outside-same, outside-then, outside-painted, painted-here, painted-elsewhere, added-here, added-elsewhere, once}
 
 -- ---- the rectangles of a macroblock, n samples wide and high, and of partition i
@@ -57,7 +57,7 @@ part-in false call i m l =
     record { left = omega arith; right = omega arith; top = omega arith; bottom = omega arith }
 
 pub moved-outside : (chroma : Bool) (n cols rows : ℕ) (ref : List ℕ) (call : Call) (vs : List ℤ) (pic : List ℕ) → call .mode ≤ 7 → n ≤ numMotionVectors (call .mode)
-    → let m = 16 / unit chroma in Outside (m * cols) (m * call .column) (m * call .row) m m pic (movedUpTo n (unit chroma) cols rows ref call vs pic)
+    → SamplesOutside (unit chroma) cols (call .column) (call .row) pic (movedUpTo n (unit chroma) cols rows ref call vs pic)
 unfolding movedUpTo movedOnce
 moved-outside chroma zero cols rows ref call vs pic m l = outside-same pic
 moved-outside chroma (suc n) cols rows ref call vs pic m l =
@@ -82,7 +82,7 @@ cell-small : (n : ℕ) → n < 16 → (cellOfBlock n % 4 < 4) × (cellOfBlock n 
 cell-small n l = (omega (arith, cell-column n l), omega (arith, cell-row n l))
 
 -- ---- residuals
-pub luma-outside : (n cols : ℕ) (h : Head) (levels : List ℤ) (pic : List ℕ) → n ≤ 16 → Outside (16 * cols) (16 * h .column) (16 * h .row) 16 16 pic (lumaUpTo n cols h levels pic)
+pub luma-outside : (n cols : ℕ) (h : Head) (levels : List ℤ) (pic : List ℕ) → n ≤ 16 → SamplesOutside 1 cols (h .column) (h .row) pic (lumaUpTo n cols h levels pic)
 unfolding lumaUpTo added
 luma-outside zero cols h levels pic l = outside-same pic
 luma-outside (suc n) cols h levels pic l =
@@ -90,7 +90,7 @@ luma-outside (suc n) cols h levels pic l =
     outside-then (luma-outside n cols h levels pic (omega arith))
     (by-test (Outside _ _ _ _ _ _) (itemCoded (h .pattern) n) (outside-painted _ _ (record { left = omega arith; right = omega arith; top = omega arith; bottom = omega arith })) (outside-same _))
 
-pub chroma-outside : (n plane cols : ℕ) (h : Head) (levels : List ℤ) (pic : List ℕ) → n ≤ 4 → Outside (8 * cols) (8 * h .column) (8 * h .row) 8 8 pic (chromaUpTo n plane cols h levels pic)
+pub chroma-outside : (n plane cols : ℕ) (h : Head) (levels : List ℤ) (pic : List ℕ) → n ≤ 4 → SamplesOutside 2 cols (h .column) (h .row) pic (chromaUpTo n plane cols h levels pic)
 unfolding chromaUpTo added
 chroma-outside zero plane cols h levels pic l = outside-same pic
 chroma-outside (suc n) plane cols h levels pic l =
@@ -99,15 +99,15 @@ chroma-outside (suc n) plane cols h levels pic l =
 -- ---- vectors and marks
 pub record FieldOutside (column row : ℕ) (f g : Field) : Type 0 where
   pub cols : g .cols ≡ f .cols
-  pub vectors : Outside (2 * (4 * f .cols)) (2 * (4 * column)) (4 * row) 8 4 (f .mv) (g .mv)
-  pub marks : Outside (4 * f .cols) (4 * column) (4 * row) 4 4 (f .marks) (g .marks)
+  pub vectors : VectorsOutside (f .cols) column row (f .mv) (g .mv)
+  pub marks : MarksOutside (f .cols) column row (f .marks) (g .marks)
 
 pub field-stored : (column row x y wide high : ℕ) (f : Field) (vx vy : ℤ) → SquareCovers 4 column row x y wide high → FieldOutside column row f (storedField f x y wide high vx vy)
 unfolding storedField storedVectors storedMarks filled
 field-stored column row x y wide high f vx vy c = record {
   cols = refl;
-  vectors = outside-painted _ _ (record { left = omega arith; right = omega arith; top = c .top; bottom = c .bottom });
-  marks = outside-painted _ _ c;
+  vectors = outside-painted _ _ (record { left = omega arith; right = omega arith; top = omega arith; bottom = omega arith });
+  marks = outside-painted _ _ (record { left = omega arith; right = omega arith; top = omega arith; bottom = omega arith });
 }
 
 field-then : {column row : ℕ} {f g h : Field} → FieldOutside column row f g → FieldOutside column row g h → FieldOutside column row f h
@@ -172,7 +172,7 @@ module _ (a b : ℕ) (la : a < 16) (lb : b < 16) where
   block-cell : (cellOfBlock (lumaBlockAt a b) % 4 ≡ a / 4) × (cellOfBlock (lumaBlockAt a b) / 4 ≡ b / 4)
   unfolding lumaBlockAt quadrantAt
   block-cell =
-      let d = block-digits (a / 8) (a / 4 % 2) (b / 8) (b / 4 % 2) (lumaBlockAt a b) (omega arith) (omega arith) (omega arith) (omega arith) refl in
+      let d = block-digits (a / 8) (a / 4 % 2) (b / 8) (b / 4 % 2) (lumaBlockAt a b) (omega arith) (omega arith) (omega arith) (omega arith) (omega arith) in
       (cell-column (lumaBlockAt a b) block-among ∙ rw (d .0, d .1) (omega arith), cell-row (lumaBlockAt a b) block-among ∙ rw (d .2, d .3) (omega arith))
 
   block-only : (n : ℕ) → n < 16 → cellOfBlock n % 4 ≡ a / 4 → cellOfBlock n / 4 ≡ b / 4 → n ≡ lumaBlockAt a b

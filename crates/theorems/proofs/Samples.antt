@@ -19,6 +19,7 @@ use Rattle.refusal.proofs.Formats.{got-value}
 use Rattle.ints.specs.Z.{if_then_else_, towardZero, clip1Z}
 use Rattle.bits.specs.Bits.{bitList}
 use Rattle.picture.specs.Painted.{Inside}
+use Rattle.picture.specs.Picture.{copied}
 use Rattle.picture.proofs.Laws.{macroblock-inside}
 use Rattle.vectors.specs.Modes.{partitionWidth, partitionHeight, numMotionVectors}
 use Rattle.compensation.specs.Sample.{sampleAt, sixths}
@@ -38,18 +39,37 @@ use Rattle.apply.proofs.Macroblocks.{skip-luma, coded-luma, skip-chroma, coded-
 use Rattle.outcome.specs.State.{State, contextOf, lengthsOf}
 use Rattle.outcome.specs.Decode.{applied, Outcome, outcomeOf, decoded}
 use Rattle.outcome.specs.declared.MbAnswer.the-variants.{Accepted}
+use Rattle.theorems.specs.Trace.{Ready}
 use Rattle.theorems.specs.Samples.{Plane, Luma, Cb, Cr, referenceOf, pictureOf, unitOf, widthOf, heightOf, pictureAt, referenceAt, compensatedAt, ofTaps, quadrantAt, codedAt, lumaResidualAt, chromaResidualAt, withResidualAt}
 use Rattle.theorems.proofs.Traces.{Kind, no, yes, kind}
 use Rattle.theorems.proofs.Painted.{among-larger, place-fits, if-at, copied-here}
 use Rattle.theorems.proofs.Macroblocks.{SquareHolds, PartHolds, part-in, moved-outside, moved-at, luma-at, chroma-at}
 
--- ---- an accepted call
-pub record Reading (s : State) (call : Call) (bits : List ℕ) (place : ℕ) : Type 0 where
+-- ---- an accepted call has read a record, and leaves what this does
+pub record Reading (s : State) (call : Call) (bits : List ℕ) (place : ℕ) (after : State) : Type 0 where
   pub read : Record
   pub count : ℕ
   pub is : readMacroblock (contextOf s) call (drop place (bitList bits)) ≡ got read count
+  pub leaves : after ≡ applied s read
+  pub ready : Ready s call
+  pub sized : StateSized (s .cols) (s .rows) (lengthsOf s)
 
--- what it found, and what it leaves
+pub accepted-reads : (s : State) (call : Call) (bits : List ℕ) (place : ℕ) (t : List ℕ) (fill : ℕ) {p q f k : ℕ} → decoded s call bits place t fill .answer ≡ Accepted p q f k → Reading s call bits place (decoded s call bits place t fill .state)
+unfolding outcomeOf askReplay
+accepted-reads s call bits place t fill a = go (kind s call bits place t fill)
+  where
+    go : Kind s call bits place t fill → Reading s call bits place (decoded s call bits place t fill .state)
+    go (no why e) = absurd (let b = sym a ∙ ap (λ (o : Outcome). o .answer) e in let z : _≡_ {A = ℕ} 0 1 = cc in omega arith)
+    go (yes r n asks h e) = record {
+      read = r;
+      count = n;
+      is = h;
+      leaves = ap (λ (o : Outcome). o .state) e;
+      ready = asks .ready;
+      sized = state-sized (s .cols) (s .rows) (lengthsOf s) (started (s .cols) (s .rows) (lengthsOf s) _ (asks .replay) .two);
+    }
+
+-- the record r, at its own place
 record Applying (s : State) (call : Call) (r : Record) (after : State) : Type 0 where
   pub is : after ≡ applied s r
   pub call-is : call ≡ callOf r
@@ -58,32 +78,17 @@ record Applying (s : State) (call : Call) (r : Record) (after : State) : Type 0 
   pub row : r .head .row < s .rows
   pub sized : StateSized (s .cols) (s .rows) (lengthsOf s)
 
-module _ (s : State) (call : Call) (bits : List ℕ) (place : ℕ) (t : List ℕ) (fill : ℕ) {p q f k : ℕ} (a : decoded s call bits place t fill .answer ≡ Accepted p q f k) where
-  -- it read a record
-  pub accepted-reads : Reading s call bits place
-  accepted-reads = go (kind s call bits place t fill)
-    where
-      go : Kind s call bits place t fill → Reading s call bits place
-      go (no why e) = absurd (let b = sym a ∙ ap (λ (o : Outcome). o .answer) e in let z : _≡_ {A = ℕ} 0 1 = cc in omega arith)
-      go (yes r n asks h e) = record { read = r; count = n; is = h }
-
-  applying : {r : Record} {n : ℕ} → readMacroblock (contextOf s) call (drop place (bitList bits)) ≡ got r n → Applying s call r (decoded s call bits place t fill .state)
-  unfolding outcomeOf askReplay
-  applying {r} {n} h = go (kind s call bits place t fill)
-    where
-      go : Kind s call bits place t fill → Applying s call r (decoded s call bits place t fill .state)
-      go (no why e) = absurd (let b = sym a ∙ ap (λ (o : Outcome). o .answer) e in let z : _≡_ {A = ℕ} 0 1 = cc in omega arith)
-      go (yes r′ n′ asks h′ e) =
-          let same : r′ ≡ r = got-value (sym h′ ∙ h) in
-          let c : call ≡ callOf r = read-call (contextOf s) call (drop place (bitList bits)) r n h in
-          record {
-            is = ap (λ (o : Outcome). o .state) e ∙ ap (applied s) same;
-            call-is = c;
-            mode = subst (λ (x : Call). x .mode ≤ 7) c (asks .ready .mode);
-            column = subst (λ (x : Call). x .column < s .cols) c (asks .ready .column);
-            row = subst (λ (x : Call). x .row < s .rows) c (asks .ready .row);
-            sized = state-sized (s .cols) (s .rows) (lengthsOf s) (started (s .cols) (s .rows) (lengthsOf s) _ (asks .replay) .two);
-          }
+applying : {s : State} {call : Call} (bits : List ℕ) (place : ℕ) {after : State} {r : Record} {n : ℕ} → Reading s call bits place after → readMacroblock (contextOf s) call (drop place (bitList bits)) ≡ got r n → Applying s call r after
+applying {s} {call} bits place {after} {r} {n} x h =
+    let c : call ≡ callOf r = read-call (contextOf s) call (drop place (bitList bits)) r n h in
+    record {
+      is = x .leaves ∙ ap (applied s) (got-value (sym (x .is) ∙ h));
+      call-is = c;
+      mode = subst (λ (y : Call). y .mode ≤ 7) c (x .ready .mode);
+      column = subst (λ (y : Call). y .column < s .cols) c (x .ready .column);
+      row = subst (λ (y : Call). y .row < s .rows) c (x .ready .row);
+      sized = x .sized;
+    }
 
 -- a skip has no partition
 some-mode : (mode i : ℕ) → i < numMotionVectors mode → mode ≢ 0
@@ -137,11 +142,18 @@ module _ {s : State} {call : Call} {r : Record} {after : State} (g : Applying s 
   record-sample Cb i X Y l p = let f = in-square Cb (among-larger (part-in true (callOf r) i (g .mode) l) p) in chroma-sample 0 i X Y (s .rcb) (s .cb) l p (f .0) (f .1)
   record-sample Cr i X Y l p = let f = in-square Cr (among-larger (part-in true (callOf r) i (g .mode) l) p) in chroma-sample 1 i X Y (s .rcr) (s .cr) l p (f .0) (f .1)
 
+  plane-skipped : r .head .mode ≡ 0 → (plane : Plane)
+      → let n = 16 / unitOf plane in pictureOf plane (applied s r) ≡ copied (pictureOf plane s) (widthOf plane s) (n * r .head .column) (n * r .head .row) n n (referenceOf plane s)
+  unfolding applied
+  plane-skipped e Luma = skip-luma (s .cols) (s .rows) (s .ry) r (s .y) e
+  plane-skipped e Cb = skip-chroma (s .cols) (s .rows) (s .rcb) r (s .cb) 0 e
+  plane-skipped e Cr = skip-chroma (s .cols) (s .rows) (s .rcr) r (s .cr) 1 e
+
   record-skipped : r .head .mode ≡ 0 → (plane : Plane) (X Y : ℕ) → SquareHolds (16 / unitOf plane) (r .head .column) (r .head .row) X Y → pictureAt plane (applied s r) X Y ≡ referenceAt plane s X Y
   unfolding pictureAt referenceAt applied
-  record-skipped e Luma X Y sq = ap (λ (l : List ℕ). getD l (Y * (16 * s .cols) + X) 0) (skip-luma (s .cols) (s .rows) (s .ry) r (s .y) e) ∙ (let f = in-square Luma sq in copied-here _ _ _ _ _ (s .ry) (s .y) X Y (f .0) (f .1) sq)
-  record-skipped e Cb X Y sq = ap (λ (l : List ℕ). getD l (Y * (8 * s .cols) + X) 0) (skip-chroma (s .cols) (s .rows) (s .rcb) r (s .cb) 0 e) ∙ (let f = in-square Cb sq in copied-here _ _ _ _ _ (s .rcb) (s .cb) X Y (f .0) (f .1) sq)
-  record-skipped e Cr X Y sq = ap (λ (l : List ℕ). getD l (Y * (8 * s .cols) + X) 0) (skip-chroma (s .cols) (s .rows) (s .rcr) r (s .cr) 1 e) ∙ (let f = in-square Cr sq in copied-here _ _ _ _ _ (s .rcr) (s .cr) X Y (f .0) (f .1) sq)
+  record-skipped e plane X Y sq =
+      let f = in-square plane sq in
+      ap (λ (l : List ℕ). getD l (Y * widthOf plane s + X) 0) (plane-skipped e plane) ∙ copied-here _ _ _ _ _ (referenceOf plane s) (pictureOf plane s) X Y (f .0) (f .1) sq
 
 -- ---- the theorems
 module _ (s : State) (call : Call) (bits : List ℕ) (place : ℕ) (t : List ℕ) (fill : ℕ) {p q f k : ℕ} (accepted : decoded s call bits place t fill .answer ≡ Accepted p q f k) where
@@ -153,7 +165,7 @@ module _ (s : State) (call : Call) (bits : List ℕ) (place : ℕ) (t : List ℕ
       → let x = partX (unitOf plane) call i + c in let y = partY (unitOf plane) call i + d in let side = 16 / unitOf plane in
       pictureAt plane after x y ≡ withResidualAt plane r (x % side) (y % side) (compensatedAt plane s r i x y)
   sample_with_residual {r} h plane i c d =
-      let g = applying s call bits place t fill accepted h in
+      let g = applying bits place (accepted-reads s call bits place t fill accepted) h in
       let u = unitOf plane in
       let side = 16 / u in
       rw (g .is)
@@ -175,7 +187,7 @@ module _ (s : State) (call : Call) (bits : List ℕ) (place : ℕ) (t : List ℕ
       → let x = side * call .column + a in let y = side * call .row + b in pictureAt plane after x y ≡ referenceAt plane s x y
   skipped_sample e plane a b la lb =
       let w = accepted-reads s call bits place t fill accepted in
-      let g = applying s call bits place t fill accepted (w .is) in
+      let g = applying bits place w (w .is) in
       let side = 16 / unitOf plane in
       rw (g .is)
       (subst (λ (call : Call). call .mode ≡ 0 → let x = side * call .column + a in let y = side * call .row + b in pictureAt plane (applied s (w .read)) x y ≡ referenceAt plane s x y)
