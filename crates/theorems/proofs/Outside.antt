@@ -65,11 +65,11 @@ module _ (r : Record) (m : r .head .mode ≤ 7) where
       samples Cr = chroma-applied 1 (s .cols) (s .rows) (s .rcr) (s .cr)
 
 -- ---- the theorem
-pub outside_unchanged : (s : State) (call : Call) (bits : List ℕ) (place : ℕ) (t : List ℕ) (fill : ℕ) → StateOutside (call .column) (call .row) s (decoded s call bits place t fill .state)
+pub outside_unchanged : (s : State) (call : Call) (bits : List ℕ) (place : ℕ) (room : List ℕ) (fill : ℕ) → StateOutside (call .column) (call .row) s (decoded s call bits place room fill .state)
 unfolding outcomeOf
-outside_unchanged s call bits place t fill = go (kind s call bits place t fill)
+outside_unchanged s call bits place room fill = go (kind s call bits place room fill)
   where
-    go : Kind s call bits place t fill → StateOutside (call .column) (call .row) s (decoded s call bits place t fill .state)
+    go : Kind s call bits place room fill → StateOutside (call .column) (call .row) s (decoded s call bits place room fill .state)
     go (no why e) =
         rw e (record { references = λ plane. refl; samples = λ plane. outside-same (pictureOf plane s); vectors = outside-same (s .mv); marks = outside-same (s .marks) })
     go (yes r n a h e) =

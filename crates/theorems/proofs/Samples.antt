@@ -1,8 +1,9 @@
--- SAMPLES: after an accepted call that read the record r, whatever the state, the call, the bits and the place, in each of the three planes:
--- `sample_with_residual`: at column c of row d of partition i, the picture has the reference's sample where the partition's vector leads, by the formula of sixths on endless edges,
--- and where the block there is coded, that sample plus its residual, held in 0 to 255;
--- `compensated_sample`: with pattern 0, it has that sample alone, and this lies between the least and the greatest of its four taps;
--- `skipped_sample`: a skip leaves in each place of its macroblock the reference's sample at the same place.
+-- SAMPLES: after an accepted call that read the record r (`accepted-reads`: it read one), whatever the state, the call, the bits and their place, in each of the three planes:
+-- `sample_with_residual`: at column c of row d of partition i, the picture has the sample of the reference, its edges endless, to which the partition's vector leads from there, by the formula of sixths;
+-- where the block there is coded, that sample plus its residual, held in 0 to 255;
+-- `compensated_sample`: with pattern 0, that sample alone, and it lies between the least and the greatest of its four taps;
+-- `skipped_sample`: a skip, which has no partition, leaves at each place of its macroblock the sample of the reference at the same place.
+-- Each place of a macroblock that is no skip lies in exactly one partition: `exactly-one` of vectors.
 -- Assumes nothing.
 use mathlib.Core.Path.{_≡_, refl, sym, ap, _∙_, subst}
 use mathlib.Core.Logic.{_≢_}
@@ -54,7 +55,8 @@ pub record Reading (s : State) (call : Call) (bits : List ℕ) (place : ℕ) (af
   pub ready : Ready s call
   pub sized : StateSized (s .cols) (s .rows) (lengthsOf s)
 
-pub accepted-reads : (s : State) (call : Call) (bits : List ℕ) (place : ℕ) (t : List ℕ) (fill : ℕ) {p q f k : ℕ} → decoded s call bits place t fill .answer ≡ Accepted p q f k → Reading s call bits place (decoded s call bits place t fill .state)
+pub accepted-reads : (s : State) (call : Call) (bits : List ℕ) (place : ℕ) (t : List ℕ) (fill : ℕ) {p q f k : ℕ} → decoded s call bits place t fill .answer ≡ Accepted p q f k
+    → Reading s call bits place (decoded s call bits place t fill .state)
 unfolding outcomeOf askReplay
 accepted-reads s call bits place t fill a = go (kind s call bits place t fill)
   where
@@ -156,16 +158,17 @@ module _ {s : State} {call : Call} {r : Record} {after : State} (g : Applying s 
       ap (λ (l : List ℕ). getD l (Y * widthOf plane s + X) 0) (plane-skipped e plane) ∙ copied-here _ _ _ _ _ (referenceOf plane s) (pictureOf plane s) X Y (f .0) (f .1) sq
 
 -- ---- the theorems
-module _ (s : State) (call : Call) (bits : List ℕ) (place : ℕ) (t : List ℕ) (fill : ℕ) {p q f k : ℕ} (accepted : decoded s call bits place t fill .answer ≡ Accepted p q f k) where
+module _ (s : State) (call : Call) (bits : List ℕ) (place : ℕ) (room : List ℕ) (fill : ℕ)
+    {next quantiser end clipped : ℕ} (accepted : decoded s call bits place room fill .answer ≡ Accepted next quantiser end clipped) where
   abbrev after : State
-  after = decoded s call bits place t fill .state
+  after = decoded s call bits place room fill .state
 
   pub sample_with_residual : {r : Record} {n : ℕ} → readMacroblock (contextOf s) call (drop place (bitList bits)) ≡ got r n
       → (plane : Plane) (i c d : ℕ) → i < numMotionVectors (call .mode) → c < partitionWidth (call .mode) / unitOf plane → d < partitionHeight (call .mode) / unitOf plane
       → let x = partX (unitOf plane) call i + c in let y = partY (unitOf plane) call i + d in let side = 16 / unitOf plane in
       pictureAt plane after x y ≡ withResidualAt plane r (x % side) (y % side) (compensatedAt plane s r i x y)
   sample_with_residual {r} h plane i c d =
-      let g = applying bits place (accepted-reads s call bits place t fill accepted) h in
+      let g = applying bits place (accepted-reads s call bits place room fill accepted) h in
       let u = unitOf plane in
       let side = 16 / u in
       rw (g .is)
@@ -186,7 +189,7 @@ module _ (s : State) (call : Call) (bits : List ℕ) (place : ℕ) (t : List ℕ
   pub skipped_sample : call .mode ≡ 0 → (plane : Plane) (a b : ℕ) → let side = 16 / unitOf plane in a < side → b < side
       → let x = side * call .column + a in let y = side * call .row + b in pictureAt plane after x y ≡ referenceAt plane s x y
   skipped_sample e plane a b la lb =
-      let w = accepted-reads s call bits place t fill accepted in
+      let w = accepted-reads s call bits place room fill accepted in
       let g = applying bits place w (w .is) in
       let side = 16 / unitOf plane in
       rw (g .is)
