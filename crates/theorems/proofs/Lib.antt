@@ -5,3 +5,7 @@ pub mod UniqueReading
 pub mod Clipped
 pub mod ReplayOfRun
 pub mod SixteenCases
+pub mod Painted
+pub mod Macroblocks
+pub mod Samples
+pub mod Outside

@@ -1,2 +1,4 @@
 pub mod Trace
 pub mod Unique
+pub mod Samples
+pub mod Outside
