@@ -12,7 +12,6 @@ use adding::svq3_recon::add_chroma;
 use adding::svq3_recon::add_luma;
 use moving::svq3_frame::compensate_chroma;
 use moving::svq3_frame::compensate_luma;
-use next_row::touch_next_row;
 use picture::rows::copy_block;
 use picture::svq3_picture::copy_macroblock_from;
 use predict::svq3_frame::mark_macroblock;
@@ -103,12 +102,6 @@ pub fn apply_record(
     ensures { λ _. ⌜ now (mv .exit) ≡ appliedField (recordOf head (now (vectors .entry)) (now (levels .entry))) (fieldOf cols rows (now (mv .entry)) (now (marks .entry))) .mv ⌝ }
     ensures { λ _. ⌜ now (marks .exit) ≡ appliedField (recordOf head (now (vectors .entry)) (now (levels .entry))) (fieldOf cols rows (now (mv .entry)) (now (marks .entry))) .marks ⌝ }
 {
-    let column = head.column as usize;
-    let row = head.row as usize;
-    // Never true; so the reads ahead stay in the compiled code.
-    if touch_next_row(y, cb, cr, mv, marks, ry, rcb, rcr, cols, rows, column, row) {
-        return;
-    }
     apply_luma(y, ry, vectors, levels, cols, rows, head);
     apply_chroma(cb, cr, rcb, rcr, vectors, levels, cols, rows, head);
     apply_field(mv, marks, vectors, cols, rows, head);
@@ -137,10 +130,6 @@ pub fn apply_skip(
     ensures { λ _. ⌜ now (mv .exit) ≡ appliedField (skipRecord column row) (fieldOf cols rows (now (mv .entry)) (now (marks .entry))) .mv ⌝ }
     ensures { λ _. ⌜ now (marks .exit) ≡ appliedField (skipRecord column row) (fieldOf cols rows (now (mv .entry)) (now (marks .entry))) .marks ⌝ }
 {
-    // Never true; so the reads ahead stay in the compiled code.
-    if touch_next_row(y, cb, cr, mv, marks, ry, rcb, rcr, cols, rows, column, row) {
-        return;
-    }
     copy_macroblock_from(y, cb, cr, ry, rcb, rcr, cols, rows, column, row);
     mark_macroblock(mv, marks, cols, column, row);
 }

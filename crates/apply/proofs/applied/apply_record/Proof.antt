@@ -1,31 +1,22 @@
 -- `apply::applied::apply_record`: luma, chroma, then the cells.
-use mathlib.Core.Path.{refl, sym, _∙_}
-use mathlib.Core.Bool.{true≢false}
-use borrow.Author.Needs.{needs}
 use Rattle.apply.proofs.Macroblocks.{place-within}
 use Rattle.apply.proofs.applied.apply_record.Statement.{statement}
 use Rattle.apply.proofs.applied.apply_record.Tie as tie
 
-touch-next-row-requires : tie.Need-touch-next-row-requires
-touch-next-row-requires c κs = let s = c .before .before .before .before .before .before .before .before .before .before .before .before .before .before in (place-within (s .pre .0 .2) (s .pre .0 .0) (s .pre .0 .1), s .pre .1)
-
-never : tie.Need-returns
-never c = absurd (true≢false (sym (c .if1 .taken) ∙ c .before .touch-next-row .ensures))
-
 apply-luma-requires : tie.Need-apply-luma-requires
-apply-luma-requires c κs = let s = c .before .before .before .before .before .before .before .before .before .before .before .before .before .before .before .before .before in (s .pre .0, (s .pre .1 .0 .luma-right, s .pre .1 .1 .luma-right))
+apply-luma-requires c κs = let s = c .before .before .before .before .before .before .before .before in (s .pre .0, (s .pre .1 .0 .luma-right, s .pre .1 .1 .luma-right))
 
 apply-chroma-requires : tie.Need-apply-chroma-requires
-apply-chroma-requires c κs = let s = c .before .before .before .before .before .before .before .before .before .before .before .before .before .before .before .before .before .before .before .before .before .before in (s .pre .0, (s .pre .1 .0 .cb-right, s .pre .1 .1 .cb-right, s .pre .1 .0 .cr-right, s .pre .1 .1 .cr-right))
+apply-chroma-requires c κs = let s = c .before .before .before .before .before .before .before .before .before .before .before .before .before in (s .pre .0, (s .pre .1 .0 .cb-right, s .pre .1 .1 .cb-right, s .pre .1 .0 .cr-right, s .pre .1 .1 .cr-right))
 
 apply-field-requires : tie.Need-apply-field-requires
 apply-field-requires c κs =
-    let s = c .before .before .before .before .before .before .before .before .before .before .before .before .before .before .before .before .before .before .before .before .before .before .before .before .before .before .before .before .before in
+    let s = c .before .before .before .before .before .before .before .before .before .before .before .before .before .before .before .before .before .before .before .before in
     ((place-within (s .pre .0 .2) (s .pre .0 .0) (s .pre .0 .1), s .pre .0 .2 .mode), (s .pre .1 .2, s .pre .1 .3, s .pre .0 .3))
 
-returns-2 : tie.Need-returns-2
-returns-2 c =
-    let levels = c .before .before .before .before .before .before .before .before .before .before .before .before .before .before .before .before .before .before .before .before .before .before .before .before .before .before .before .before .before .before .before .before .before .args .levels .now in
+returns : tie.Need-returns
+returns c =
+    let levels = c .before .before .before .before .before .before .before .before .before .before .before .before .before .before .before .before .before .before .before .before .before .before .before .before .args .levels .now in
     let chroma = c .before .before .before .before .before .before .before .before .before .before .apply-chroma .ensures in
     let field = c .before .before .before .apply-field .ensures in
     (c .before .before .before .before .before .before .before .before .before .before .before .before .before .before .before .apply-luma .ensures, (chroma .0, (chroma .1, (field .0 levels, field .1 levels))))
@@ -34,15 +25,6 @@ pub apply-record-spec : {M : Type 1} → statement M
 apply-record-spec =
     tie.close
     (tie.spec
-    (λ c. search needs)
-    (λ c. search needs)
-    touch-next-row-requires
-    (λ c. refl)
-    (λ c. refl)
-    (λ c. refl)
-    (λ c. refl)
-    (λ c. refl)
-    never
     apply-luma-requires
     apply-chroma-requires
     apply-field-requires
@@ -51,4 +33,4 @@ apply-record-spec =
     (λ c. c .before .before .before .before .before .before .before .before .before .before .apply-chroma .kept .1 .0)
     (λ c. c .before .before .before .apply-field .kept .0)
     (λ c. c .before .before .before .apply-field .kept .1 .0)
-    returns-2)
+    returns)

@@ -1,6 +1,5 @@
 -- `apply::applied::apply_skip`: the three blocks copied, the cells marked.
-use mathlib.Core.Path.{refl, sym, ap, _∙_}
-use mathlib.Core.Bool.{true≢false}
+use mathlib.Core.Path.{sym, ap, _∙_}
 use Prim.Native.Nat.{ℕ, _*_}
 use native.Mathlib.Omega.{arith}
 use Rattle.predict.proofs.Following.{macroblock-cells}
@@ -9,21 +8,15 @@ use Rattle.apply.proofs.Fields.{skipped-mv, skipped-marks}
 use Rattle.apply.proofs.applied.apply_skip.Statement.{statement}
 use Rattle.apply.proofs.applied.apply_skip.Tie as tie
 
-touch-next-row-requires : tie.Need-touch-next-row-requires
-touch-next-row-requires c κs = c .before .before .before .before .before .before .before .before .before .before .before .before .pre
-
-never : tie.Need-returns
-never c = absurd (true≢false (sym (c .if1 .taken) ∙ c .before .touch-next-row .ensures))
-
 copy-macroblock-from-requires : tie.Need-copy-macroblock-from-requires
-copy-macroblock-from-requires c κs = let s = c .before .before .before .before .before .before .before .before .before .before .before .before .before .before .before .before .before in (s .pre .0, (s .pre .1 .0, s .pre .1 .1))
+copy-macroblock-from-requires c κs = let s = c .before .before .before .before .before .before .before .before .before .before in (s .pre .0, (s .pre .1 .0, s .pre .1 .1))
 
 mark-macroblock-requires : tie.Need-mark-macroblock-requires
-mark-macroblock-requires c κs = let s = c .before .before .before .before .before .before .before .before .before .before .before .before .before .before .before .before .before .before .before .before .before .before .before .before .before .before in (s .pre .0 .wide, s .pre .1 .2 ∙ ap (λ (n : ℕ). 2 * n) (sym (s .pre .1 .3)), macroblock-cells (s .pre .0) (s .pre .1 .3))
+mark-macroblock-requires c κs = let s = c .before .before .before .before .before .before .before .before .before .before .before .before .before .before .before .before .before .before .before in (s .pre .0 .wide, s .pre .1 .2 ∙ ap (λ (n : ℕ). 2 * n) (sym (s .pre .1 .3)), macroblock-cells (s .pre .0) (s .pre .1 .3))
 
-returns-2 : tie.Need-returns-2
-returns-2 c =
-    let s = c .before .before .before .before .before .before .before .before .before .before .before .before .before .before .before .before .before .before .before .before .before .before .before .before .before .before .before .before .before .before in
+returns : tie.Need-returns
+returns c =
+    let s = c .before .before .before .before .before .before .before .before .before .before .before .before .before .before .before .before .before .before .before .before .before .before .before in
     let a = s .args in
     let p = c .before .before .before .before .before .before .before .before .before .before .before .before .copy-macroblock-from .ensures in
     let m = c .before .before .before .mark-macroblock .ensures in (
@@ -44,13 +37,6 @@ pub apply-skip-spec : {M : Type 1} → statement M
 apply-skip-spec =
     tie.close
     (tie.spec
-    touch-next-row-requires
-    (λ c. refl)
-    (λ c. refl)
-    (λ c. refl)
-    (λ c. refl)
-    (λ c. refl)
-    never
     copy-macroblock-from-requires
     mark-macroblock-requires
     (λ c. c .before .before .before .before .before .before .before .before .before .before .before .before .copy-macroblock-from .kept .0)
@@ -58,4 +44,4 @@ apply-skip-spec =
     (λ c. c .before .before .before .before .before .before .before .before .before .before .before .before .copy-macroblock-from .kept .1 .1 .0)
     (λ c. c .before .before .before .mark-macroblock .kept .0)
     (λ c. c .before .before .before .mark-macroblock .kept .1 .0)
-    returns-2)
+    returns)
