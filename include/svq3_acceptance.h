@@ -13,8 +13,7 @@
  * delta_enable        0 for off, anything else for on
  * quantiser           0 to 31
  * ref_y, ref_cb, ref_cr   the reference planes by rows, 256, 64 and 64 samples a macroblock
- * pic_y, pic_cb, pic_cr   the picture planes likewise; samples are read ahead of their turn, so memcheck reports
- *                     planes that were never written, though no answer depends on them
+ * pic_y, pic_cb, pic_cr   the picture planes likewise
  * mv                  two sixths a 4x4 cell, horizontal then vertical, cells by rows: 32 a macroblock
  * marks               16 a macroblock, 0 for a cell without a vector
  * bits, place         the bits, highest first in each byte, and the place of the first

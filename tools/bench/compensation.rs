@@ -48,7 +48,7 @@ struct Blocks {
 }
 
 /// How many times as fast the library has to be.
-const BAR: f64 = 4.0;
+const BAR: f64 = 5.0;
 
 pub fn rows(show: &mut impl FnMut(f64, Row)) {
     let planes = Planes::drawn();

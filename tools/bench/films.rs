@@ -33,9 +33,13 @@ pub fn rows() -> Vec<String> {
         "\n{:<16} {:>9} {:>9} {:>9} {:>7} {:>9} {:>9}",
         "a film's macroblock", "grid", "Rust, ns", "run, ns", "times", "replay", "memcpy"
     );
-    // How many times as fast as the Rust a run has to be.
-    for (name, kind, bar) in [("heavy", Kind::Heavy, 3.5), ("light", Kind::Light, 5.0), ("skip", Kind::Skip, 0.0)] {
-        for (columns, rows) in [(22, 18), (45, 36), (120, 68)] {
+    // How many times as fast as the Rust a run has to be, on each grid.
+    for (name, kind, bars) in [
+        ("heavy", Kind::Heavy, [3.6; 3]),
+        ("light", Kind::Light, [5.0, 5.0, 4.0]),
+        ("skip", Kind::Skip, [0.0; 3]),
+    ] {
+        for ((columns, rows), bar) in [(22, 18), (45, 36), (120, 68)].into_iter().zip(bars) {
             let row = measured(&film(kind, columns, rows));
             let times = row.reference / row.run;
             println!(

@@ -28,7 +28,7 @@ struct Levels {
 
 pub fn rows(show: &mut impl FnMut(f64, Row)) {
     // At quantiser 12 every product lies within ±800,000, the bound of the exact sums. Levels that saturate are shown, not judged.
-    let cases = [("residual, quantiser 12", 12, 30, 1.5), ("residual, levels that saturate", 31, 40_000, 0.0)];
+    let cases = [("residual, quantiser 12", 12, 30, 2.5), ("residual, levels that saturate", 31, 40_000, 0.0)];
     for (name, q, most, bar) in cases {
         let levels = Levels::drawn(most);
         let start = Samples { luma: [100; 256], chroma: [[90; 64], [160; 64]] };
