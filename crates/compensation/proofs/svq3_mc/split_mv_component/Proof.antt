@@ -1,7 +1,8 @@
--- `compensation::svq3_mc::split_mv_component` meets its contract: what the machine divides is the raised vector.
+-- `compensation::svq3_mc::split_mv_component` meets its contract: what the machine divides is the vector, raised by 6 · 357,913,942.
 use mathlib.Core.Path.{sym, subst}
 use native.Mathlib.Omega.{arith}
 use borrow.Author.Needs.{needs}
+use lib.Dec.{lit≤}
 use mir.Syntax.{w64}
 use mir.Val.{SFits}
 use Rattle.ints.proofs.Fits.{signed, back}
@@ -11,34 +12,35 @@ use Rattle.compensation.proofs.Split.{raised-small, raised-cast, raised
 use Rattle.compensation.proofs.svq3_mc.split_mv_component.Statement.{statement}
 use Rattle.compensation.proofs.svq3_mc.split_mv_component.Tie as tie
 
--- the sum, which fits: below, that it is the raised vector
 add-u : tie.Need-add-u
 add-u c = search signed depth 20
 
 cast-u-2 : tie.Need-cast-u-2
 cast-u-2 c =
     let record { v = v } = c .fits in
-    raised-cast v (add-u c) (search reads depth 20)
+    raised-cast 357913942 (lit≤ tt) v (add-u c) (search reads depth 20)
 
 cast-t4 : tie.Need-cast-t4
 cast-t4 c =
     let record { v = v } = c .fits in
-    record { sfits = omega (arith, raised-small v (add-u c) (search reads depth 20)) }
+    record { sfits = omega (arith, raised-small 357913942 (lit≤ tt) v (add-u c) (search reads depth 20)) }
 
 sub-t5 : tie.Need-sub-t5
 sub-t5 c =
     let record { v = v } = c .fits in
-    subst (SFits w64) (sym (raised-whole v (add-u c) (search reads depth 20))) (record { sfits = omega (arith, floor-fits 6 v) })
+    subst (SFits w64) (sym (raised-whole 357913942 (lit≤ tt) v (add-u c) (search reads depth 20))) (record { sfits = omega (arith, floor-fits 6 v) })
 
 mul-t6 : tie.Need-mul-t6
 mul-t6 c =
     let record { v = v } = c .fits in
-    record { fits = omega (arith, raised-small v (add-u c) (search reads depth 20)) }
+    record { fits = omega (arith, raised-small 357913942 (lit≤ tt) v (add-u c) (search reads depth 20)) }
 
 returns : tie.Need-returns
 returns c =
-    let record { v = v } = c .fits in
-    (back w64 (sub-t5 c .sfits) (raised-whole v (add-u c) (search reads depth 20)), raised-phase v (add-u c) (search reads depth 20))
+    let record { v = v } = c .fits in (
+      back w64 (sub-t5 c .sfits) (raised-whole 357913942 (lit≤ tt) v (add-u c) (search reads depth 20)),
+      raised-phase 357913942 (lit≤ tt) v (add-u c) (search reads depth 20),
+    )
 
 pub split-mv-component-spec : {M : Type 1} → statement M
 split-mv-component-spec =
