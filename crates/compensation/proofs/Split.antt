@@ -1,41 +1,47 @@
 -- A vector raised by a multiple of six, so that it is not below 0: its quotient and remainder are those of rounding down. And a block's place moved by the quotient.
 -- Assumes nothing.
 use mathlib.Core.Path.{_≡_, sym, ap, _∙_}
-use Prim.Native.Nat.{ℕ, _+_, _*_, _-_, _/_, _%_, _<_}
+use Prim.Native.Nat.{ℕ, _+_, _*_, _-_, _/_, _%_, _≤_, _<_}
 use native.Mathlib.Omega.{arith}
-use lib.IntN.{ℤ, pos, natAbs, _+ℤ_, _-ℤ_}
-use lib.Signed.{mag, pos-natAbs}
+use lib.Dec.{T}
+use lib.IntN.{ℤ, pos, natAbs, _+ℤ_, _-ℤ_, +ℤ-comm}
+use lib.Signed.{nonNeg, pos-natAbs}
 use mir.Syntax.{w32, w64}
-use mir.Val.{SFits}
+use mir.Val.{SFits, Fits, toZ}
+use mir.Facts.{toZ-ofZ, toZ-pos}
 use Rattle.ints.specs.Z.{floorZ, modZ}
 use Rattle.ints.proofs.Linear.{z-rules, add-z, diff-z, mag-z}
 use Rattle.ints.proofs.Laws.{floor-shift}
-use Rattle.ints.proofs.Fits.{read, signed}
+use Rattle.ints.proofs.Fits.{read, signed, cast-unsigned}
 use Rattle.ints.proofs.Same.{reads}
 
-module _ (z : ℤ) (small : mag z < 2147483648) where
-  abbrev pub raised : ℕ
-  raised = natAbs (z +ℤ pos 2147483652)
+-- z, which fits 64 bits, is the vector v raised by six times k; n is z as the machine casts it
+module _ {v z : ℤ} (k : ℕ) (enough : 2147483648 ≤ 6 * k) (small : SFits w32 v) (fits : SFits w64 z) (is : z ≡ v +ℤ pos (6 * k)) where
+  abbrev n : ℕ
+  n = natAbs (read w64 z)
 
-  pub raised-is : z +ℤ pos 2147483652 ≡ pos raised
-  raised-is = sym (pos-natAbs (z +ℤ pos 2147483652) (omega (arith, z-rules, add-z z (pos 2147483652), mag-z z, mag-z (z +ℤ pos 2147483652))))
+  raised : pos n ≡ pos (6 * k) +ℤ v
+  raised =
+      let e : read w64 z ≡ pos (6 * k) +ℤ v = toZ-ofZ fits ∙ is ∙ +ℤ-comm v (pos (6 * k)) in
+      pos-natAbs (read w64 z) (omega (arith, z-rules, e, add-z (pos (6 * k)) v, mag-z v, small .sfits, mag-z (read w64 z))) ∙ e
 
-  pub raised-small : raised < 4294967300
-  raised-small = omega (arith, z-rules, raised-is, add-z z (pos 2147483652), mag-z z)
+  pub raised-small : n < 9223372036854775808
+  raised-small = omega (arith, z-rules, is ∙ +ℤ-comm v (pos (6 * k)) ∙ sym raised, mag-z z, fits .sfits)
 
-  shifted : pos 2147483652 +ℤ z ≡ pos raised
-  shifted = omega (arith, z-rules, raised-is, add-z z (pos 2147483652), add-z (pos 2147483652) z)
+  pub raised-cast : T (nonNeg (read w64 z)) × Fits w64 n
+  raised-cast = cast-unsigned w64 (toZ-ofZ fits ∙ is ∙ +ℤ-comm v (pos (6 * k)) ∙ sym raised) (omega (arith, raised-small))
 
-  pub raised-whole : pos (raised / 6) -ℤ pos 357913942 ≡ floorZ z 6
+  pub raised-whole : toZ w64 (n / 6) -ℤ pos k ≡ floorZ v 6
   unfolding floorZ
   raised-whole =
-      let e : pos (raised / 6) ≡ pos 357913942 +ℤ floorZ z 6 = ap (λ v. floorZ v 6) (sym shifted) ∙ floor-shift 6 (pos 357913942) z (omega arith) .0 in
-      omega (arith, z-rules, e, add-z (pos 357913942) (floorZ z 6), diff-z (pos (raised / 6)) (pos 357913942))
+      let p : toZ w64 (n / 6) ≡ pos (n / 6) = toZ-pos w64 (omega (arith, raised-small)) in
+      let e : pos (n / 6) ≡ pos k +ℤ floorZ v 6 = ap (λ x. floorZ x 6) raised ∙ floor-shift 6 (pos k) v (omega arith) .0 in
+      ap (λ x. x -ℤ pos k) p ∙ omega (arith, z-rules, e, add-z (pos k) (floorZ v 6), diff-z (pos (n / 6)) (pos k))
 
-  pub raised-phase : raised - 6 * (raised / 6) ≡ modZ z 6
+  pub raised-phase : n - 6 * (n / 6) ≡ modZ v 6
   unfolding modZ
   raised-phase =
-      let e : raised % 6 ≡ modZ z 6 = ap (λ v. modZ v 6) (sym shifted) ∙ floor-shift 6 (pos 357913942) z (omega arith) .1 in
+      let e : n % 6 ≡ modZ v 6 = ap (λ x. modZ x 6) raised ∙ floor-shift 6 (pos k) v (omega arith) .1 in
       omega arith
 
 -- two numbers of 32 bits, added in 64

@@ -253,9 +253,6 @@ module _ (w : Width) (x y : ℤ) (t : Bool) where
   pub le-plain-r : leZ x (toZ w (ofZ w y)) ≡ t → SFits w y → leZ x y ≡ t
   le-plain-r e f = simp toZ-ofZ at e
 
-pub lt-at : (w : Width) {x : ℤ} (y : ℤ) {t : Bool} → SFits w x → ltZ (toZ w (ofZ w x)) y ≡ t → ltZ x y ≡ t
-lt-at w {x} y {t} f e = lt-plain-l w x y t e f
-
 pub fits-plain : (w w′ : Width) (z : ℤ) → SFits w′ (toZ w (ofZ w z)) → SFits w z → SFits w′ z
 fits-plain w w′ z h f = simp toZ-ofZ at h
 

@@ -2,5 +2,4 @@
 pub mod Fits
 pub mod Same
 pub mod Linear
-pub mod Divide
 pub mod Laws

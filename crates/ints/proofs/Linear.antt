@@ -1,18 +1,18 @@
 -- ℤ for `omega`, which reads naturals only: z is `up z - down z`, of which one is 0, and an order or an equation of ℤ is one of sums of them. In a proof:
 --     omega (arith, z-rules, add-z a b, times-z 6 c, ..)
--- `z-rules` reads what is known and the goal: `x ≡ y`, `ltZ x y ≡ true` or `false`, `leZ` alike, `x <ℤ y`, `x ≤ℤ y`, `T (nonNeg x)`. Beside it stands a law for each sum, difference, multiple, minimum ..
+-- `z-rules` reads what is known and the goal: `x ≡ y`, `ltZ x y ≡ true` or `false`, `leZ` alike, `T (nonNeg x)`. Beside it stands a law for each sum, difference, multiple, minimum ..
 -- that occurs, applied to its parts: `add-z`, `diff-z`, `neg-z`, `times-z` (k * x) and `scaled-z` (x * k), `min-z`, `max-z`, `clamp-z`, `sat-z`, `clip1-z`, `floor-z` and `quot-z` (k a numeral),
 -- for a range `mag-z z`, and for a magnitude `abs-z z`.
 -- Assumes nothing.
 use mathlib.Core.Path.{_≡_, refl, sym, ap, subst, _∙_}
-use mathlib.Core.Bool.{Bool, true, false}
+use mathlib.Core.Bool.{true, false}
 use Prim.Native.Nat.{ℕ, zero, suc, _+_, _*_, _/_, _≤_, _<_, min, max}
 use native.Mathlib.Nat.{div-add-mod, mod-lt, zero-div}
 use native.Mathlib.Omega.{arith}
 use borrow.Author.Tests.{ltb-true, ltb-false, leb-true, leb-false, lt-ltb, le-ltb, le-leb, lt-leb}
 use lib.Dec.{T}
 use lib.IntN.{ℤ, pos, negsuc, negℤ, natAbs, subℕ, _+ℤ_, _-ℤ_, _*ℤ_, *ℤ-comm}
-use lib.Signed.{mag, nonNeg, ltZ, leZ, _≤ℤ_, _<ℤ_, quotZ}
+use lib.Signed.{mag, nonNeg, ltZ, leZ, quotZ}
 use Rattle.ints.specs.Z.{minZ, maxZ, clampZ, satZ, clip1Z, floorZ, modZ, leastI32, mostI32}
 use Rattle.ints.proofs.Fits.{sub-ind, if-ind, clamp-ind}
 
@@ -52,16 +52,6 @@ of-gt (pos a) (negsuc b) e = omega arith
 of-gt (negsuc a) (pos b) e = absurd (subst T e tt)
 of-gt (negsuc a) (negsuc b) e = omega (arith, leb-false b a e)
 
-true-of : (t : Bool) → T t → t ≡ true
-true-of true h = refl
-true-of false h = absurd h
-
-pub of-≤ : (x y : ℤ) → x ≤ℤ y → up x + down y ≤ up y + down x
-of-≤ x y h = of-le x y (true-of (leZ x y) (h .le))
-
-pub of-< : (x y : ℤ) → x <ℤ y → up x + down y < up y + down x
-of-< x y h = of-lt x y (true-of (ltZ x y) (h .lt))
-
 pub of-nonneg : (x : ℤ) → T (nonNeg x) → down x ≡ 0
 of-nonneg (pos n) t = refl
 of-nonneg (negsuc n) t = absurd t
@@ -97,17 +87,11 @@ to-gt (pos a) (negsuc b) h = refl
 to-gt (negsuc a) (pos b) h = absurd (omega arith)
 to-gt (negsuc a) (negsuc b) h = lt-leb b a (omega arith)
 
-pub to-≤ : (x y : ℤ) → up x + down y ≤ up y + down x → x ≤ℤ y
-to-≤ x y h = record { le = subst T (sym (to-le x y h)) tt }
-
-pub to-< : (x y : ℤ) → up x + down y < up y + down x → x <ℤ y
-to-< x y h = record { lt = subst T (sym (to-lt x y h)) tt }
-
 pub to-nonneg : (x : ℤ) → down x ≡ 0 → T (nonNeg x)
 to-nonneg (pos n) h = tt
 to-nonneg (negsuc n) h = absurd (omega arith)
 
-pub ruleset z-rules = (of-eq, of-lt, of-ge, of-le, of-gt, of-≤, of-<, of-nonneg, to-eq, to-lt, to-ge, to-le, to-gt, to-≤, to-<, to-nonneg)
+pub ruleset z-rules = (of-eq, of-lt, of-ge, of-le, of-gt, of-nonneg, to-eq, to-lt, to-ge, to-le, to-gt, to-nonneg)
 
 -- ---- sums and multiples
 sub-z : (a b : ℕ) → up (subℕ a b) + b ≡ down (subℕ a b) + a

@@ -1,8 +1,7 @@
 // Signed helpers. Each contract is an equation in ℤ, the numbers without bounds, by the definitions of specs/Z.antt.
 ghost use mathlib.Core.Path.{_≡_};
-ghost use lib.IntN.{_+ℤ_, _*ℤ_, pos};
-ghost use Prim.Native.Nat.{_<_};
-ghost use Rattle.ints.specs.Z.{satZ, clip1Z, clampZ, minZ, maxZ, medianZ, floorZ, modZ, towardZero};
+ghost use lib.IntN.{_+ℤ_, _*ℤ_};
+ghost use Rattle.ints.specs.Z.{satZ, clampZ, minZ, maxZ, medianZ, towardZero};
 ghost use Rattle.ints.specs.Held.{heldZ};
 
 const I32_MIN: i64 = -2147483648;
@@ -49,26 +48,6 @@ pub fn sat_mul(a: i32, b: i32) -> Held
     hold((a as i64) * (b as i64))
 }
 
-// The nearest sample.
-pub fn sat_u8(v: i64) -> u8
-    ensures { λ r. ⌜ r ≡ clip1Z v ⌝ }
-{
-    if v < 0 {
-        0
-    } else if v > 255 {
-        255
-    } else {
-        v as u8
-    }
-}
-
-// A predicted sample and its residual, added and held in 0 to 255.
-pub fn reconstruct_sample(pred: u8, residual: i32) -> u8
-    ensures { λ r. ⌜ r ≡ clip1Z (pos pred +ℤ residual) ⌝ }
-{
-    sat_u8((pred as i64) + (residual as i64))
-}
-
 pub fn clamp_i32(v: i32, lo: i32, hi: i32) -> i32
     ensures { λ r. ⌜ r ≡ clampZ lo hi v ⌝ }
 {
@@ -109,38 +88,6 @@ pub fn median3(a: i32, b: i32, c: i32) -> i32
     ensures { λ r. ⌜ r ≡ medianZ a b c ⌝ }
 {
     clamp_i32(c, min_i32(a, b), max_i32(a, b))
-}
-
-// Machine division rounds toward zero: a remainder below 0 says that it rounded up.
-pub fn floor_div_i64(v: i64, k: u32) -> i64
-    requires { ⌜ 0 < k ⌝ }
-    ensures { λ r. ⌜ r ≡ floorZ v k ⌝ }
-{
-    let d = k as i64;
-    if v % d < 0 { v / d - 1 } else { v / d }
-}
-
-pub fn floor_mod_i64(v: i64, k: u32) -> u32
-    requires { ⌜ 0 < k ⌝ }
-    ensures { λ r. ⌜ r ≡ modZ v k ⌝ }
-{
-    let d = k as i64;
-    let m = v % d;
-    if m < 0 { (m + d) as u32 } else { m as u32 }
-}
-
-pub fn floor_div(v: i32, k: u32) -> i32
-    requires { ⌜ 0 < k ⌝ }
-    ensures { λ r. ⌜ r ≡ floorZ v k ⌝ }
-{
-    floor_div_i64(v as i64, k) as i32
-}
-
-pub fn floor_mod(v: i32, k: u32) -> u32
-    requires { ⌜ 0 < k ⌝ }
-    ensures { λ r. ⌜ r ≡ modZ v k ⌝ }
-{
-    floor_mod_i64(v as i64, k)
 }
 
 pub fn half_toward_zero(v: i32) -> i32

@@ -14,7 +14,7 @@ use lib.ListN.{length, getD, set, length-set}
 use lib.Seq.{getD-set-same, getD-set-other, ext-getD}
 use borrow.Author.Tests.{ltb-true, ltb-false, leb-true, leb-false, lt-ltb, le-leb}
 use Rattle.picture.specs.Painted.{eachAt, within, inside, painted, Inside}
-use Rattle.picture.specs.Picture.{sample, stored, seen, Within}
+use Rattle.picture.specs.Picture.{seen, copied, Within}
 use Rattle.picture.specs.Rows.{row, rows}
 
 -- one more row of k fits, where n rows are fewer than m
@@ -221,14 +221,9 @@ apart s x y w h x′ y′ w′ h′ o i =
     o (i % s) (i / s) (ax .0) (ax .1) (ay .0) (ay .1) (bx .0) (bx .1) (by′ .0) (by′ .1))
 
 -- the definition at numbers, by computation: a block of 2 × 2 at column 1 of row 1, in rows of 4
-worked : stored (0 ∷ 0 ∷ 0 ∷ 0 ∷ 0 ∷ 0 ∷ 0 ∷ 0 ∷ 0 ∷ 0 ∷ 0 ∷ 0 ∷ []) 4 1 1 2 2 (1 ∷ 2 ∷ 3 ∷ 4 ∷ []) ≡ 0 ∷ 0 ∷ 0 ∷ 0 ∷ 0 ∷ 1 ∷ 2 ∷ 0 ∷ 0 ∷ 3 ∷ 4 ∷ 0 ∷ []
-unfolding stored painted eachAt inside within sample
+worked : copied (0 ∷ 0 ∷ 0 ∷ 0 ∷ 0 ∷ 0 ∷ 0 ∷ 0 ∷ 0 ∷ 0 ∷ 0 ∷ 0 ∷ []) 4 1 1 2 2 (1 ∷ 2 ∷ 3 ∷ 4 ∷ 5 ∷ 6 ∷ 7 ∷ 8 ∷ 9 ∷ 10 ∷ 11 ∷ 12 ∷ []) ≡ 0 ∷ 0 ∷ 0 ∷ 0 ∷ 0 ∷ 6 ∷ 7 ∷ 0 ∷ 0 ∷ 10 ∷ 11 ∷ 0 ∷ []
+unfolding copied painted eachAt inside within seen
 worked = refl
-
--- what was stored is read back
-pub stored-seen : {s x y w h : ℕ} (plane block : List ℕ) (r c : ℕ) → Inside s x y w h (length plane) → r < h → c < w → seen (stored plane s x y w h block) s x y r c ≡ sample block w r c
-unfolding seen stored
-stored-seen plane block r c f lr lc = painted-same (sample block _) plane r c 0 f lr lc
 
 -- ---- a macroblock of n × n samples lies inside its plane
 pub macroblock-inside : (n : ℕ) {cols rows column row : ℕ} → 0 < n → column < cols → row < rows → Inside (n * cols) (n * column) (n * row) n n (n * n * (cols * rows))

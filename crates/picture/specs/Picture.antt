@@ -1,4 +1,4 @@
--- A picture's planes: their lengths, and what they hold after a block was stored, copied or filled.
+-- A picture's planes: their lengths, and what they hold after a block was copied or filled.
 -- Assumes nothing.
 use mathlib.Core.Path.{_≡_}
 use Prim.Native.Nat.{ℕ, _+_, _*_, _<_, _≤_}
@@ -28,14 +28,6 @@ pub record Sized (cols rows luma cb cr : ℕ) : Type 0 where
   pub luma-right : luma ≡ lumaLength cols rows
   pub cb-right : cb ≡ chromaLength cols rows
   pub cr-right : cr ≡ chromaLength cols rows
-
--- the sample of a block of width w at column c of row r
-unfoldable pub sample : List ℕ → ℕ → ℕ → ℕ → ℕ
-sample block w r c = getD block (r * w + c) 0
-
--- a plane after the w × h samples of `block` are stored from column x of row y on
-unfoldable pub stored : List ℕ → ℕ → ℕ → ℕ → ℕ → ℕ → List ℕ → List ℕ
-stored plane stride x y w h block = painted stride x y w h (sample block w) plane
 
 -- the sample of a plane at column x + c of row y + r
 unfoldable pub seen : List ℕ → ℕ → ℕ → ℕ → ℕ → ℕ → ℕ

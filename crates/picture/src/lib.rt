@@ -1,3 +1,3 @@
-// The planes of a picture: blocks stored and copied by rows.
+// The planes of a picture: blocks copied by rows.
 pub mod rows;
 pub mod svq3_picture;

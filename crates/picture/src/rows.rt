@@ -3,7 +3,7 @@ ghost use mathlib.Core.Path.{_≡_};
 ghost use Prim.Native.Nat.{_+_, _*_, _≤_};
 ghost use lib.ListN.{length, replicate};
 ghost use Rattle.picture.specs.Painted.{Inside};
-ghost use Rattle.picture.specs.Picture.{stored, copied};
+ghost use Rattle.picture.specs.Picture.{copied};
 ghost use Rattle.picture.specs.Rows.{row, run};
 
 // n samples of `block` from `from` on, as the first of sixteen.
@@ -31,27 +31,6 @@ pub fn store_row(plane: &mut [u8], at: usize, block: &[u8], from: usize, n: usiz
     while c < n {
         plane[at + c] = t[c];
         c += 1;
-    }
-}
-
-// The w × h samples of `block`, row after row, into `plane`: the first at column x of row y.
-pub fn store_block(
-    plane: &mut [u8],
-    stride: usize,
-    x: usize,
-    y: usize,
-    w: usize,
-    h: usize,
-    block: &[u8],
-)
-    requires { ⌜ Inside stride x y w h (length (now plane)) ⌝ }
-    requires { ⌜ (w ≤ 16) × (h * w ≤ length (now block)) ⌝ }
-    ensures { λ _. ⌜ now (plane .exit) ≡ stored (now (plane .entry)) stride x y w h (now (block .entry)) ⌝ }
-{
-    let mut r = 0;
-    while r < h {
-        store_row(plane, (y + r) * stride + x, block, r * w, w);
-        r += 1;
     }
 }
 

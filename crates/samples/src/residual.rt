@@ -4,9 +4,11 @@ ghost use Prim.Native.Nat.{_+_, _*_, _≤_, _<_};
 ghost use lib.ListN.{length};
 use crate::record::wide;
 use ints::sat_i32;
+use picture::rows::store_row;
+use quadrant::four::add_chroma_blocks;
+use quadrant::four::add_chroma_dc_blocks;
+use quadrant::four::add_luma_quadrant;
 use transform::svq3_dequant::dequantize_chroma_dc_levels;
-use transform::svq3_recon::add_chroma_block;
-use transform::svq3_recon::add_luma_block;
 
 // Four of the bytes given, lowest first.
 fn word_at(given: &[u8], at: usize) -> u64
@@ -31,13 +33,13 @@ fn level_at(given: &[u8], at: usize) -> i32
     }
 }
 
-// n levels of the bytes given, from `from` on.
-fn take_levels(levels: &mut [i32], given: &[u8], from: usize, n: usize)
-    requires { ⌜ (n ≤ length (now levels)) × (from + 4 * n ≤ length (now given)) ⌝ }
+// n levels of the bytes given from `from` on, stored from `to` on.
+fn take_levels(levels: &mut [i32], to: usize, given: &[u8], from: usize, n: usize)
+    requires { ⌜ (to + n ≤ length (now levels)) × (from + 4 * n ≤ length (now given)) ⌝ }
 {
     let mut i = 0;
     while i < n {
-        levels[i] = level_at(given, from + 4 * i);
+        levels[to + i] = level_at(given, from + 4 * i);
         i += 1;
     }
 }
@@ -52,29 +54,62 @@ fn take_samples(samples: &mut [u8], given: &[u8], n: usize)
     }
 }
 
-// Kind 19: 16 samples, 16 levels.
-fn luma(given: &[u8], answered: &[u8], q: u32) -> bool
-    requires { ⌜ (80 ≤ length (now given)) × (q ≤ 31) ⌝ }
+// A block of 4 × 4 samples, into a quadrant of 8 × 8 from `at` on.
+fn put_block(quadrant: &mut [u8], at: usize, block: &[u8])
+    requires { ⌜ (at ≤ 36) × (64 ≤ length (now quadrant)) × (16 ≤ length (now block)) ⌝ }
 {
-    let mut samples = [0u8; 16];
-    let mut levels = [0i32; 16];
-    take_samples(&mut samples, given, 16);
-    take_levels(&mut levels, given, 16, 16);
-    add_luma_block(&mut samples, &levels, 0, 4, 0, 0, q);
+    store_row(quadrant, at, block, 0, 4);
+    store_row(quadrant, at + 8, block, 4, 4);
+    store_row(quadrant, at + 16, block, 8, 4);
+    store_row(quadrant, at + 24, block, 12, 4);
+}
+
+// Whether the block that starts at `at` is the one answered, and the other three, which have no levels, stay as they were.
+fn luma_at(given: &[u8], answered: &[u8], q: u32, at: usize, first: usize) -> bool
+    requires { ⌜ (80 ≤ length (now given)) × (16 ≤ length (now answered)) × (q ≤ 31) × (at ≤ 36) × (first ≤ 48) ⌝ }
+{
+    let mut samples = [100u8; 64];
+    let mut wanted = [100u8; 64];
+    let mut levels = [0i32; 64];
+    put_block(&mut samples, at, given);
+    put_block(&mut wanted, at, answered);
+    take_levels(&mut levels, first, given, 16, 16);
+    add_luma_quadrant(&mut samples, &levels, 0, 8, 0, 0, q);
+    check::same(&samples, &wanted)
+}
+
+// Kind 19: 16 samples, 16 levels, as each of the four blocks of a quadrant.
+fn luma(given: &[u8], answered: &[u8], q: u32) -> bool
+    requires { ⌜ (80 ≤ length (now given)) × (16 ≤ length (now answered)) × (q ≤ 31) ⌝ }
+{
+    luma_at(given, answered, q, 0, 0)
+        & luma_at(given, answered, q, 4, 16)
+        & luma_at(given, answered, q, 32, 32)
+        & luma_at(given, answered, q, 36, 48)
+}
+
+// Whether a level is not 0.
+fn some_level(levels: &[i32; 64]) -> bool {
+    let mut some = false;
+    let mut i = 0;
+    while i < 64 {
+        some = some | (levels[i] != 0);
+        i += 1;
+    }
+    some
+}
+
+// The samples with the four DC alone.
+fn dc_agrees(given: &[u8], answered: &[u8], dc: [i32; 4]) -> bool
+    requires { ⌜ 64 ≤ length (now given) ⌝ }
+{
+    let mut samples = [0u8; 64];
+    take_samples(&mut samples, given, 64);
+    add_chroma_dc_blocks(&mut samples, 8, 0, 0, dc);
     check::same(&samples, answered)
 }
 
-// The four blocks of a chroma plane, by rows.
-fn add_blocks(samples: &mut [u8], levels: &[i32], dc: [i32; 4], q: u32)
-    requires { ⌜ (64 ≤ length (now samples)) × (64 ≤ length (now levels)) × (length dc ≡ 4) × (q ≤ 31) ⌝ }
-{
-    add_chroma_block(samples, levels, 0, 8, 0, 0, q, dc[0]);
-    add_chroma_block(samples, levels, 16, 8, 4, 0, q, dc[1]);
-    add_chroma_block(samples, levels, 32, 8, 0, 4, q, dc[2]);
-    add_chroma_block(samples, levels, 48, 8, 4, 4, q, dc[3]);
-}
-
-// Kind 20: 64 samples, 4 DC levels, 4 blocks of 16 levels.
+// Kind 20: 64 samples, 4 DC levels, 4 blocks of 16 levels. Where all of these are 0, the DC alone has to do as well.
 fn chroma(given: &[u8], answered: &[u8], q: u32) -> bool
     requires { ⌜ (336 ≤ length (now given)) × (q ≤ 31) ⌝ }
 {
@@ -82,11 +117,11 @@ fn chroma(given: &[u8], answered: &[u8], q: u32) -> bool
     let mut direct = [0i32; 4];
     let mut levels = [0i32; 64];
     take_samples(&mut samples, given, 64);
-    take_levels(&mut direct, given, 64, 4);
-    take_levels(&mut levels, given, 80, 64);
+    take_levels(&mut direct, 0, given, 64, 4);
+    take_levels(&mut levels, 0, given, 80, 64);
     let dc = dequantize_chroma_dc_levels(&direct, 0, q);
-    add_blocks(&mut samples, &levels, dc, q);
-    check::same(&samples, answered)
+    add_chroma_blocks(&mut samples, &levels, 0, 8, 0, 0, q, dc);
+    check::same(&samples, answered) & (some_level(&levels) | dc_agrees(given, answered, dc))
 }
 
 // Whether the samples are those answered. A question that is not of its form differs.
@@ -94,7 +129,9 @@ pub fn agrees(kind: u8, q: u32, given: &[u8], answered: &[u8]) -> bool {
     if q <= 31 {
         if kind == 19 {
             if 80 <= given.len() {
-                return luma(given, answered, q);
+                if answered.len() == 16 {
+                    return luma(given, answered, q);
+                }
             }
         } else if 336 <= given.len() {
             return chroma(given, answered, q);

@@ -1,9 +1,9 @@
 -- Laws of this crate's definitions.
 -- Assumes nothing.
 use mathlib.Core.Path.{_≡_, refl, ap, _∙_}
-use mathlib.Core.Bool.{Bool, true, false, cond}
+use mathlib.Core.Bool.{true, false}
 use mathlib.Core.List.{List, [], _∷_}
-use Prim.Native.Nat.{ℕ, zero, suc, _+_, _*_, _-_, _/_, _%_, _≤_, _<_}
+use Prim.Native.Nat.{ℕ, zero, suc, _+_, _*_, _-_, _≤_, _<_}
 use native.Mathlib.Nat.{zero-add, zero-mul}
 use native.Mathlib.Omega.{arith}
 use lib.Dec.{lit<}
@@ -11,12 +11,11 @@ use lib.IntN.{ℤ, pos, negsuc, negℤ, _+ℤ_, _*ℤ_}
 use lib.Signed.{ltZ, mag}
 use lib.ListN.{set, getD}
 use Rattle.ints.specs.Z.{if_then_else_, minZ, clampZ, satZ, clip1Z}
-use Rattle.ints.proofs.Fits.{Within, within-clamp, within-lit, clamp-ind}
+use Rattle.ints.proofs.Fits.{within-clamp, within-lit, clamp-ind}
 use Rattle.ints.proofs.Linear.{z-rules, add-z, neg-z, min-z, clip1-z, mag-z}
-use Rattle.picture.specs.Painted.{inside, painted}
 use Rattle.picture.specs.Picture.{seen}
 use Rattle.picture.specs.Rows.{row, rows}
-use Rattle.picture.proofs.Laws.{more, row-more, row-values, rows-more, rows-other, each-length, each-at, each-is, place}
+use Rattle.picture.proofs.Laws.{more, row-more, row-values, rows-more, rows-other, painted-values}
 use Rattle.transform.specs.Residual.{placed, noLevels, scaled, sumOf, weighed, rowsOf, columnsOf, rounded, residual}
 use Rattle.transform.specs.Added.{raised, added}
 use Rattle.transform.specs.Arrays.{listed, turned, dot, short, shortened, finished, Short, raisedAt}
@@ -70,15 +69,7 @@ row-added s x y j plane₀ residual {plane} h e f =
     (λ r k lr lk. let m : (y + r) * s + s ≤ (y + j) * s = more s (omega arith) in omega arith) in
     rw (old, zero-add) refl))
 
--- ---- only the values that are painted count
-pub painted-values : {A : Type 0} (d : A) (s x y w h : ℕ) (v v′ : ℕ → ℕ → A) (l : List A) → ((r c : ℕ) → r < h → c < w → v r c ≡ v′ r c) → painted s x y w h v l ≡ painted s x y w h v′ l
-unfolding painted
-painted-values {A} d s x y w h v v′ l e = each-is _ d l _ (each-length _ l) (λ i lt. each-at _ l i d lt ∙ go i (inside s x y w h i) refl)
-  where
-    go : (i : ℕ) (t : Bool) → inside s x y w h i ≡ t → cond t (v (i / s - y) (i % s - x)) (getD l i d) ≡ cond t (v′ (i / s - y) (i % s - x)) (getD l i d)
-    go i true p = let q = place s x y w h i p in e _ _ (q .0) (q .1)
-    go i false p = refl
-
+-- ---- held residuals
 -- a residual beyond 255 either way makes no more difference
 clip-short : (a : ℕ) (z : ℤ) → a < 256 → clip1Z (pos a +ℤ short z) ≡ clip1Z (pos a +ℤ z)
 unfolding short
@@ -114,12 +105,12 @@ placed-listed f r c h k =
 -- only the residuals of the block count
 pub added-values : (plane : List ℕ) (s x y : ℕ) (f g : ℕ → ℕ → ℤ) → ((r c : ℕ) → r < 4 → c < 4 → f r c ≡ g r c) → added plane s x y f ≡ added plane s x y g
 unfolding added raised
-added-values plane s x y f g e = painted-values 0 s x y 4 4 _ _ plane (λ r c lr lc. ap (λ z. clip1Z (pos (seen plane s x y r c) +ℤ z)) (e r c lr lc))
+added-values plane s x y f g e = painted-values s x y 4 4 _ _ plane (λ r c lr lc. ap (λ z. clip1Z (pos (seen plane s x y r c) +ℤ z)) (e r c lr lc))
 
 -- samples of 8 bits, to which held residuals are added: as if they were not held
 pub added-short : (plane : List ℕ) (s x y : ℕ) (f : ℕ → ℕ → ℤ) → ((n : ℕ) → getD plane n 0 < 256) → added plane s x y (shortened f) ≡ added plane s x y f
 unfolding added raised shortened seen
-added-short plane s x y f h = painted-values 0 s x y 4 4 _ _ plane (λ r c lr lc. clip-short _ (f r c) (h _))
+added-short plane s x y f h = painted-values s x y 4 4 _ _ plane (λ r c lr lc. clip-short _ (f r c) (h _))
 
 pub added-listed : (plane : List ℕ) (s x y : ℕ) (f : ℕ → ℕ → ℤ) {l : List ℤ} → l ≡ listed (shortened f) → ((n : ℕ) → getD plane n 0 < 256) → added plane s x y (placed l 0) ≡ added plane s x y f
 added-listed plane s x y f e h = ap (λ l. added plane s x y (placed l 0)) e ∙ added-values plane s x y _ _ (placed-listed (shortened f)) ∙ added-short plane s x y f h

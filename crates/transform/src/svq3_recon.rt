@@ -3,16 +3,8 @@ ghost use mathlib.Core.Path.{_≡_};
 ghost use Prim.Native.Nat.{ℕ, _≤_, _+_};
 ghost use lib.ListN.{length};
 ghost use Rattle.picture.specs.Painted.{Inside};
-ghost use Rattle.transform.specs.Residual.{
-  placed,
-  noLevels,
-  residual,
-  lumaResidual,
-  chromaResidual,
-};
+ghost use Rattle.transform.specs.Residual.{placed, noLevels, residual};
 ghost use Rattle.transform.specs.Added.{added};
-use crate::svq3_dequant::chroma_coeff;
-use crate::svq3_dequant::dequant_coeff;
 use crate::svq3_dequant::dequantize_transform_luma_block_with_dc;
 use crate::svq3_dequant::finish;
 use crate::svq3_pred::reconstruct_4x4;
@@ -34,39 +26,6 @@ pub fn add_block(
 {
     let r = dequantize_transform_luma_block_with_dc(levels, at, scale, dc);
     reconstruct_4x4(plane, stride, x, y, r);
-}
-
-pub fn add_luma_block(
-    plane: &mut [u8],
-    levels: &[i32],
-    at: usize,
-    stride: usize,
-    x: usize,
-    y: usize,
-    q: u32,
-)
-    requires { ⌜ Inside stride x y 4 4 (length (now plane)) ⌝ }
-    requires { ⌜ (at + 16 ≤ length (now levels)) × (q ≤ 31) ⌝ }
-    ensures { λ _. ⌜ now (plane .exit) ≡ added (now (plane .entry)) stride x y (lumaResidual q (now (levels .entry)) at) ⌝ }
-{
-    add_block(plane, levels, at, stride, x, y, dequant_coeff(q), 0);
-}
-
-pub fn add_chroma_block(
-    plane: &mut [u8],
-    levels: &[i32],
-    at: usize,
-    stride: usize,
-    x: usize,
-    y: usize,
-    q: u32,
-    dc: i32,
-)
-    requires { ⌜ Inside stride x y 4 4 (length (now plane)) ⌝ }
-    requires { ⌜ (at + 16 ≤ length (now levels)) × (q ≤ 31) ⌝ }
-    ensures { λ _. ⌜ now (plane .exit) ≡ added (now (plane .entry)) stride x y (chromaResidual q dc (now (levels .entry)) at) ⌝ }
-{
-    add_block(plane, levels, at, stride, x, y, chroma_coeff(q), dc);
 }
 
 // A chroma block with no levels but its DC: each residual is the same.

@@ -9,8 +9,7 @@ use mir.Facts.{toZ-ofZ}
 use borrow.Author.Needs.{needs}
 use Rattle.ints.specs.Z.{floorZ, modZ}
 use Rattle.ints.proofs.Fits.{signed, via}
-use Rattle.ints.proofs.Divide.{floor-fits}
-use Rattle.ints.proofs.Laws.{mod-less}
+use Rattle.ints.proofs.Laws.{floor-fits, mod-less}
 use Rattle.compensation.proofs.Split.{summed-fits, summed-is}
 use Rattle.compensation.proofs.svq3_mc.taps_of.Statement.{statement}
 use Rattle.compensation.proofs.svq3_mc.taps_of.Tie as tie

@@ -1,11 +1,12 @@
+-- `picture::rows::copy_block` meets its contract. Assumes nothing.
 use mathlib.Core.Path.{_≡_, refl, _∙_}
-use Prim.Native.Nat.{_≤_, _+_, _-_, _*_}
+use Prim.Native.Nat.{_≤_, _-_}
 use native.Mathlib.Omega.{arith}
 use native.Mathlib.Numerals.{add-one}
 use denote.Ref.{now}
-use lib.ListN.{length, length-set}
-use Rattle.picture.specs.Picture.{always, filled, seen, copied}
-use Rattle.picture.specs.Rows.{row, rows, run}
+use lib.ListN.{length}
+use Rattle.picture.specs.Picture.{seen, copied}
+use Rattle.picture.specs.Rows.{rows, run}
 use Rattle.picture.proofs.Laws.{Row, inside-row, rows-painted}
 use Rattle.picture.proofs.rows.copy_block.Statement.{statement}
 use Rattle.picture.proofs.rows.copy_block.Tie as tie

@@ -22,7 +22,7 @@ mul-copy-block-3 c = search needs
 
 -- src/svq3_picture.rt:27:5
 copy-block-requires : tie.Need-copy-block-requires
-copy-block-requires c κs = let p = c .before .before .before .before .before .before .before .pre in (plane-inside 16 (lit< tt) (p .0) (p .1 .0 .luma-right), (lit≤ tt, plane-inside 16 (lit< tt) (p .0) (p .1 .1 .luma-right)))
+copy-block-requires c κs = let p = c .before .before .before .before .before .before .before .pre in (plane-inside 16 (lit< tt) (p .0) (search needs), (lit≤ tt, plane-inside 16 (lit< tt) (p .0) (search needs)))
 
 -- src/svq3_picture.rt:28:20
 mul-copy-block-4 : tie.Need-mul-copy-block-4
@@ -38,7 +38,7 @@ mul-copy-block-6 c = search needs
 
 -- src/svq3_picture.rt:28:5
 copy-block-requires-2 : tie.Need-copy-block-requires-2
-copy-block-requires-2 c κs = let p = c .before .before .before .before .before .before .before .before .before .before .before .pre in (plane-inside 8 (lit< tt) (p .0) (p .1 .0 .cb-right), (lit≤ tt, plane-inside 8 (lit< tt) (p .0) (p .1 .1 .cb-right)))
+copy-block-requires-2 c κs = let p = c .before .before .before .before .before .before .before .before .before .before .before .pre in (plane-inside 8 (lit< tt) (p .0) (search needs), (lit≤ tt, plane-inside 8 (lit< tt) (p .0) (search needs)))
 
 -- src/svq3_picture.rt:29:20
 mul-copy-block-7 : tie.Need-mul-copy-block-7
@@ -54,7 +54,7 @@ mul-copy-block-9 c = search needs
 
 -- src/svq3_picture.rt:29:5
 copy-block-requires-3 : tie.Need-copy-block-requires-3
-copy-block-requires-3 c κs = let p = c .before .before .before .before .before .before .before .before .before .before .before .before .before .before .before .pre in (plane-inside 8 (lit< tt) (p .0) (p .1 .0 .cr-right), (lit≤ tt, plane-inside 8 (lit< tt) (p .0) (p .1 .1 .cr-right)))
+copy-block-requires-3 c κs = let p = c .before .before .before .before .before .before .before .before .before .before .before .before .before .before .before .pre in (plane-inside 8 (lit< tt) (p .0) (search needs), (lit≤ tt, plane-inside 8 (lit< tt) (p .0) (search needs)))
 
 -- src/svq3_picture.rt:8:1
 same-length : tie.Need-same-length
