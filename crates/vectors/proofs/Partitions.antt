@@ -176,17 +176,8 @@ exactly-one e mode a b h z k l m = record {
 }
 
 -- ---- the code's bytes by mode, and its products
-pub width-byte : (mode : ℕ) → mode ≤ 7 → 290486608640610320 / 2 ^ (8 * mode) % 256 ≡ partitionWidth mode
-unfolding partitionWidth
-width-byte mode k = eqb→eq _ _ (all-at (λ m. eqb (290486608640610320 / 2 ^ (8 * m) % 256) (partitionWidth m)) 8 tt mode (omega arith))
-
-pub height-byte : (mode : ℕ) → mode ≤ 7 → 289365106646585360 / 2 ^ (8 * mode) % 256 ≡ partitionHeight mode
-unfolding partitionHeight
-height-byte mode k = eqb→eq _ _ (all-at (λ m. eqb (289365106646585360 / 2 ^ (8 * m) % 256) (partitionHeight m)) 8 tt mode (omega arith))
-
-pub count-byte : (mode : ℕ) → mode ≤ 7 → 1155182117727109376 / 2 ^ (8 * mode) % 256 ≡ numMotionVectors mode
-unfolding numMotionVectors
-count-byte mode k = eqb→eq _ _ (all-at (λ m. eqb (1155182117727109376 / 2 ^ (8 * m) % 256) (numMotionVectors m)) 8 tt mode (omega arith))
+pub mode-byte : (word : ℕ) (table : ℕ → ℕ) → T (all (λ m. eqb (word / 2 ^ (8 * m) % 256) (table m)) 8) → (mode : ℕ) → mode ≤ 7 → word / 2 ^ (8 * mode) % 256 ≡ table mode
+mode-byte word table t mode k = eqb→eq _ _ (all-at (λ m. eqb (word / 2 ^ (8 * m) % 256) (table m)) 8 t mode (omega arith))
 
 pub offset-x-is : (mode i : ℕ) → mode ≤ 7 → i < 16 → i * partitionWidth mode % 16 ≡ offsetX mode i
 unfolding partitionWidth offsetX
