@@ -6,7 +6,7 @@ use mathlib.Core.List.{[], _∷_}
 use lib.IntN.{pos, negsuc}
 use Rattle.refusal.specs.Got.{got, refused}
 use Rattle.refusal.specs.declared.Refusal.the-variants.{Truncated, BadBitWidth}
-use Rattle.bits.specs.Bits.{bitList, placeIn}
+use Rattle.bits.specs.Bits.{bitList}
 use Rattle.bits.specs.Code.{code, codeFrom, codeBits, marked, placesIn}
 use Rattle.bits.specs.Signed.{signedOf}
 
@@ -21,7 +21,5 @@ pub examples :
     × (code (bitList (0 ∷ [])) ≡ refused Truncated)
     × (signedOf 3 ≡ pos 2)
     × (signedOf 4 ≡ negsuc 1)
-    × (placeIn (0 ∷ 0 ∷ []) 16 ≡ true)
-    × (placeIn (0 ∷ 0 ∷ []) 17 ≡ false)
-unfolding code codeFrom codeBits marked placesIn bitList signedOf placeIn
-examples = (refl, refl, refl, refl, refl, refl, refl, refl, refl, refl, refl, refl)
+unfolding code codeFrom codeBits marked placesIn bitList signedOf
+examples = (refl, refl, refl, refl, refl, refl, refl, refl, refl, refl)

@@ -1,10 +1,9 @@
--- The bits of a list of bytes, highest first in each byte, and question 7.
+-- The bits of a list of bytes, highest first in each byte.
 -- Assumes nothing.
-use mathlib.Core.Bool.{Bool, _&&_}
+use mathlib.Core.Bool.{Bool}
 use mathlib.Core.List.{List, [], _∷_, _++_}
-use Prim.Native.Nat.{ℕ, _*_, _/_, _%_, _^_}
-use lib.Dec.{eqb, leb, ltb}
-use lib.ListN.{length}
+use Prim.Native.Nat.{ℕ, _/_, _%_}
+use lib.Dec.{eqb}
 
 abbrev pub odd : ℕ → Bool
 odd n = eqb (n % 2) 1
@@ -15,7 +14,3 @@ byteBits x = odd (x / 128) ∷ odd (x / 64) ∷ odd (x / 32) ∷ odd (x / 16) �
 unfoldable pub bitList : List ℕ → List Bool
 bitList [] = []
 bitList (x ∷ xs) = byteBits x ++ bitList xs
-
--- question 7: the place is at most the bit total. Bytes whose places do not fit 64 bits, from 2^61 of them on, get no as well
-unfoldable pub placeIn : List ℕ → ℕ → Bool
-placeIn bytes place = ltb (length bytes) (2 ^ 61) && leb place (8 * length bytes)

@@ -1,10 +1,10 @@
-// A bit of a slice of bytes, and question 7.
+// The bits of a slice of bytes.
 ghost use mathlib.Core.Path.{_≡_};
 ghost use mathlib.Core.Bool.{false};
 ghost use mathlib.Core.List.{_∷_, _++_};
 ghost use Prim.Native.Nat.{_+_, _<_, _/_};
 ghost use lib.ListN.{length, getD, drop};
-ghost use Rattle.bits.specs.Bits.{odd, byteBits, bitList, placeIn};
+ghost use Rattle.bits.specs.Bits.{odd, byteBits, bitList};
 
 // The bit at a place, highest first in each byte.
 pub fn bit_at(bits: &[u8], at: usize) -> bool
@@ -30,16 +30,4 @@ pub fn nine_at(bits: &[u8], at: usize) -> u32
     let i = at / 8;
     let two = 256 * wide(bits[i]) + wide(bits[i + 1]);
     ((two << (at % 8)) >> 7) % 512
-}
-
-// Question 7. By a division: eight times the length may not fit.
-pub fn place_in(bits: &[u8], at: usize) -> bool
-    ensures { λ r. ⌜ r ≡ placeIn (now (bits .entry)) at ⌝ }
-{
-    let n = bits.len();
-    if n < 0x2000_0000_0000_0000 {
-        at <= 8 * n
-    } else {
-        false
-    }
 }

@@ -1,21 +1,21 @@
--- Laws of a list of calls: a call takes a byte at least, enough turns give the same calls, and the first call is in front of the calls of the rest.
+-- Laws of a list of calls: a call takes a byte at least, and the first call is in front of the calls of the rest.
 -- Assumes nothing.
-use mathlib.Core.Path.{_≡_, refl, sym, ap, _∙_}
+use mathlib.Core.Path.{_≡_, refl, ap, _∙_}
 use mathlib.Core.List.{List, []}
 use Prim.Native.Nat.{ℕ, _+_, _≤_, _<_}
 use native.Mathlib.Omega.{arith}
 use lib.ListN.{length, drop, length-drop}
 use lib.Seq.{drop-drop}
-use Rattle.refusal.specs.Got.{Got, got, refused, after, andThen, mapGot}
+use Rattle.refusal.specs.Got.{Got, got, refused, andThen, mapGot}
 use Rattle.refusal.specs.declared.Refusal.{Refusal}
 use Rattle.refusal.specs.declared.Refusal.the-variants.{NumberForm}
-use Rattle.refusal.proofs.Formats.{bounded, never}
+use Rattle.refusal.proofs.Formats.{bounded}
 use Rattle.refusal.proofs.Local.{apart}
 use Rattle.number.specs.Number.{readNumber, numberAnswer}
 use Rattle.number.specs.declared.NumberAnswer.the-variants as number
 use Rattle.number.proofs.Numbers.{number-format, number-length, refused-form}
 use Rattle.number.proofs.Answers.{number-answered, number-refused}
-use Rattle.lists.proofs.Laws.{Takes, First, Next, mapped, untilAll, until-more, until-got, until-next, until-none, until-form, tally}
+use Rattle.lists.proofs.Laws.{Takes, Next, mapped, untilAll, until-next, until-none, tally}
 use Rattle.questions.specs.declared.Call.{Call}
 use Rattle.calls.specs.Calls.{callIn, callsIn, calls, callAnswer, callsAnswer}
 use Rattle.calls.specs.declared.CallAnswer.the-variants as one
@@ -45,44 +45,14 @@ call-takes = record {
 }
 
 -- ---- the calls of a list
-pub callsIn-more : (turns turns′ : ℕ) (s : List ℕ) → length s ≤ turns → length s ≤ turns′ → callsIn turns s ≡ callsIn turns′ s
-unfolding callsIn
-callsIn-more = until-more call-takes
-
 pub calls-none : (s : List ℕ) (cs : List Call) (n : ℕ) → length s ≡ 0 → calls s ≡ got cs n → cs ≡ []
 unfolding calls callsIn
 calls-none = until-none callIn
 
--- the first call: callIn s ≡ got x k, 1 ≤ k ≤ length s, cs ≡ x ∷ rest and calls (drop k s) ≡ got rest m
-pub calls-first : (s : List ℕ) (cs : List Call) (n : ℕ) → 0 < length s → calls s ≡ got cs n → First callIn calls s cs n
-unfolding calls callsIn
-calls-first = until-got call-takes
-
--- the same of a loop that stands at the place p
+-- the call at the place p of a list, where a loop stands, and the calls behind it
 pub calls-next : (s : List ℕ) (p : ℕ) (cs : List Call) (n : ℕ) → p < length s → calls (drop p s) ≡ got cs n → Next callIn calls s p cs
 unfolding calls callsIn
 calls-next = until-next call-takes
-
--- a list is refused by 14 alone
-call-form : (s : List ℕ) (r : Refusal) → callIn s ≡ refused r → r ≡ NumberForm
-unfolding callIn
-call-form s r e = column (readNumber s) refl e
-  where
-    mode : (t : List ℕ) (x y n m : ℕ) (g : Got ℕ) → readNumber t ≡ g → after n (after m (mapGot (λ z. callOf x y z) g)) ≡ refused r → r ≡ NumberForm
-    mode t x y n m (got z k) p e = never (sym e)
-    mode t x y n m (refused r′) p e = let q : r′ ≡ r = cc in refused-form t r (p ∙ ap refused q)
-
-    row : (t : List ℕ) (x n : ℕ) (g : Got ℕ) → readNumber t ≡ g → after n (andThen g t (λ y u. mapGot (λ z. callOf x y z) (readNumber u))) ≡ refused r → r ≡ NumberForm
-    row t x n (got y m) p e = mode (drop m t) x y n m (readNumber (drop m t)) refl e
-    row t x n (refused r′) p e = let q : r′ ≡ r = cc in refused-form t r (p ∙ ap refused q)
-
-    column : (g : Got ℕ) → readNumber s ≡ g → andThen g s (λ x t. andThen (readNumber t) t (λ y u. mapGot (λ z. callOf x y z) (readNumber u))) ≡ refused r → r ≡ NumberForm
-    column (got x n) p e = row (drop n s) x n (readNumber (drop n s)) refl e
-    column (refused r′) p e = let q : r′ ≡ r = cc in refused-form s r (p ∙ ap refused q)
-
-pub calls-form : (s : List ℕ) (r : Refusal) → calls s ≡ refused r → r ≡ NumberForm
-unfolding calls callsIn
-calls-form s r e = until-form call-form (length s) s r e
 
 -- ---- what a reader of one call answers
 module _ (s : List ℕ) (at : ℕ) where

@@ -1,7 +1,6 @@
 -- Signed numbers are the number form under another name of its values.
 -- Assumes nothing.
 use mathlib.Core.Path.{_≡_}
-use mathlib.Core.List.{List, _++_}
 use mathlib.Core.Logic.{⊎-elim}
 use Prim.Native.Nat.{ℕ, _+_, _*_, _/_, _%_, _≤_, _<_}
 use native.Mathlib.Omega.{arith}
@@ -9,7 +8,7 @@ use borrow.Author.Tests.{eq-eqb, ne-eqb}
 use lib.IntN.{ℤ, pos, negsuc}
 use lib.ListN.{length, getD}
 use Rattle.refusal.specs.Format.{Format}
-use Rattle.refusal.proofs.Formats.{renamed, injective}
+use Rattle.refusal.proofs.Formats.{renamed}
 use Rattle.number.specs.Number.{NumberRange}
 use Rattle.number.specs.SignedNumber.{sent, received, SignedNumberRange, signedNumber, readSigned}
 use Rattle.number.proofs.Numbers.{number-format, number-length, number-bytes, zero-or-more}
@@ -47,10 +46,6 @@ received-range n h = ⊎-elim
 pub signed-format : Format readSigned signedNumber SignedNumberRange
 unfolding readSigned signedNumber
 signed-format = renamed number-format received sent SignedNumberRange received-range sent-range (λ z h. received-sent z) (λ n h. sent-received n)
-
--- no signed number's bytes begin another's
-pub signed-unique : (y z : ℤ) (s t : List ℕ) → SignedNumberRange y → SignedNumberRange z → signedNumber y ++ s ≡ signedNumber z ++ t → (y ≡ z) × (s ≡ t)
-signed-unique = injective signed-format
 
 pub signed-length : (z : ℤ) → (1 ≤ length (signedNumber z)) × (length (signedNumber z) ≤ 5)
 unfolding signedNumber

@@ -26,34 +26,42 @@ use Rattle.vectors.specs.declared.svq3_mb.Svq3MvPrecision.the-variants.{Fullpel
 pub field-read : (z : ℤ) → mag z < 2 ^ 31 → read w32 z ≡ z
 field-read z h = toZ-ofZ (record { sfits = h })
 
--- ---- a sixth, rounded down, by a division of naturals
-module _ (v : ℤ) (h : natAbs v ≤ 1179648) where
+-- ---- a sixth, rounded down, by a division of naturals: k more is no negative number
+module _ (k : ℕ) (low : 1179648 ≤ k) (high : k < 2 ^ 21) (v : ℤ) (h : natAbs v ≤ 1179648) where
   abbrev raised : ℤ
-  raised = v +ℤ pos 1572867
+  raised = v +ℤ pos k
 
   pub raised-fits : SFits w32 raised
-  raised-fits = record { sfits = omega (arith, abs-z v, add-z v (pos 1572867), mag-z v, mag-z raised) }
+  raised-fits = record { sfits = omega (arith, abs-z v, add-z v (pos k), mag-z v, mag-z raised) }
 
   pub raised-read : read w32 raised ≡ pos (up raised)
-  raised-read = toZ-ofZ raised-fits ∙ omega (arith, z-rules, abs-z v, add-z v (pos 1572867), mag-z v, mag-z raised)
+  raised-read = toZ-ofZ raised-fits ∙ omega (arith, z-rules, abs-z v, add-z v (pos k), mag-z v, mag-z raised)
 
   raised-number : natAbs (read w32 raised) ≡ up raised
   raised-number = ap natAbs raised-read
 
-  pub raised-small : up raised < 2 ^ 22
-  raised-small = omega (arith, abs-z v, add-z v (pos 1572867), mag-z raised)
+  raised-small : up raised < 2 ^ 22
+  raised-small = omega (arith, abs-z v, add-z v (pos k), mag-z raised)
+
+  pub raised-word : up raised < 2 ^ 32
+  raised-word = omega (arith, raised-small)
 
   pub number-small : natAbs (read w32 raised) < 2 ^ 22
   number-small = rw raised-number raised-small
 
-  pub sixth-read : toZ w32 (natAbs (read w32 raised) / 6) -ℤ pos 262144 ≡ floorZ (v +ℤ pos 3) 6
-  sixth-read =
-      rw raised-number
-      (ap (λ z. z -ℤ pos 262144) (toZ-pos w32 {n = up raised / 6} (omega (arith, raised-small)))
-      ∙ omega (arith, z-rules, abs-z v, add-z v (pos 1572867), mag-z raised, diff-z (pos (up raised / 6)) (pos 262144), floor-z 6 (v +ℤ pos 3) (omega arith), add-z v (pos 3)))
+  pub less-fits : SFits w32 (toZ w32 (natAbs (read w32 raised) / 6) -ℤ pos 262144)
+  less-fits = rw (toZ-pos w32 {n = natAbs (read w32 raised) / 6} (omega (arith, number-small))) (record { sfits = omega (arith, z-rules, number-small, diff-z (pos (natAbs (read w32 raised) / 6)) (pos 262144), mag-z (pos (natAbs (read w32 raised) / 6) -ℤ pos 262144)) })
 
-  pub sixth-fits : SFits w32 (floorZ (v +ℤ pos 3) 6)
-  sixth-fits = record { sfits = omega (arith, abs-z v, floor-z 6 (v +ℤ pos 3) (omega arith), add-z v (pos 3), mag-z (floorZ (v +ℤ pos 3) 6)) }
+  -- a sixth of k is 262144, and 3 are left
+  pub sixth-read : k ≡ 6 * 262144 + 3 → read w32 (toZ w32 (natAbs (read w32 raised) / 6) -ℤ pos 262144) ≡ floorZ (v +ℤ pos 3) 6
+  sixth-read e =
+      toZ-ofZ less-fits
+      ∙ rw raised-number
+      (ap (λ z. z -ℤ pos 262144) (toZ-pos w32 {n = up raised / 6} (omega (arith, raised-small)))
+      ∙ omega (arith, z-rules, abs-z v, add-z v (pos k), mag-z raised, diff-z (pos (up raised / 6)) (pos 262144), floor-z 6 (v +ℤ pos 3) (omega arith), add-z v (pos 3)))
+
+pub sixth-small : (n : ℕ) → n < 2 ^ 22 → n / 6 < 2 ^ 31
+sixth-small n h = omega arith
 
 -- ---- a predictor in units, at each precision: units of a sample times it, a sixth of that rounded
 rounded : (v : ℤ) → floorZ (v +ℤ pos 3) 6 ≡ roundToSixths v

@@ -4,22 +4,18 @@ use mathlib.Core.Path.{_≡_, refl, sym, ap, _∙_}
 use mathlib.Core.Bool.{Bool, true, false, cond, _&&_, true≢false}
 use mathlib.Core.List.{List}
 use Prim.Native.Nat.{ℕ, _+_, _-_, _*_, _/_, _%_, _≤_, _<_}
-use native.Mathlib.Nat.{add-assoc, add-zero}
+use native.Mathlib.Nat.{add-zero}
 use native.Mathlib.Omega.{arith}
 use lib.Arith.{digits-div, digits-mod}
-use borrow.Author.Tests.{eq-eqb, ne-eqb, ltb-true, lt-ltb}
+use borrow.Author.Tests.{ltb-true, lt-ltb}
 use lib.Dec.{eqb, ltb}
 use lib.IntN.{ℤ, pos}
-use mir.Syntax.{w32}
-use mir.Val.{SFits}
-use mir.Facts.{toZ-ofZ}
-use lib.ListN.{length, getD, set}
+use lib.ListN.{length, getD}
 use Rattle.ints.specs.Z.{if_then_else_}
-use Rattle.ints.proofs.Fits.{read, if-yes, if-no}
 use Rattle.picture.specs.Rows.{row, rows}
 use Rattle.picture.specs.Painted.{within, inside, painted, Inside}
 use Rattle.picture.specs.Picture.{cellCount, always, filled}
-use Rattle.picture.proofs.Laws.{more, row-more, rows-more, each-at, painted-length, within-true, within-in}
+use Rattle.picture.proofs.Laws.{more, rows-more, each-at, painted-length, within-true, within-in}
 use Rattle.predict.proofs.Tests.{and-left, and-right, same-test}
 use Rattle.predict.specs.Predict.{Field, vector, cellAt, nearAt}
 pub use Rattle.predict.specs.Window.{FieldSized}
@@ -28,21 +24,13 @@ use Rattle.predict.specs.declared.svq3_frame.Near.{Near}
 use Rattle.predict.specs.declared.svq3_frame.Near.the-variants.{Missing, Here}
 
 -- ---- a pair of numbers for each cell
-pub pair-even : (vx vy : ℤ) (r k : ℕ) → pairOf vx vy r (2 * k) ≡ vx
-unfolding pairOf
-pair-even vx vy r k = if-yes _ _ _ (eq-eqb (2 * k % 2) 0 (omega arith))
-
-pub pair-odd : (vx vy : ℤ) (r k : ℕ) → pairOf vx vy r (2 * k + 1) ≡ vy
-unfolding pairOf
-pair-odd vx vy r k = if-no _ _ _ (ne-eqb ((2 * k + 1) % 2) 0 (omega arith))
-
--- a turn of the loop that stores them
-pub pair-more : {l : List ℤ} (l₀ : List ℤ) (at : ℕ) (vx vy : ℤ) (k : ℕ) → l ≡ row l₀ at (pairOf vx vy 0) (2 * k) → set (set l (at + 2 * k) vx) (at + 2 * k + 1) vy ≡ row l₀ at (pairOf vx vy 0) (2 * (k + 1))
-pair-more l₀ at vx vy k e =
-    let one = row-more l₀ at (pairOf vx vy 0) (2 * k) e (sym (pair-even vx vy 0 k)) in
-    let two = row-more l₀ at (pairOf vx vy 0) (2 * k + 1) one (sym (pair-odd vx vy 0 k)) in
-    let n : 2 * k + 1 + 1 ≡ 2 * (k + 1) = omega arith in
-    rw (add-assoc at (2 * k) 1) (two ∙ ap (row l₀ at (pairOf vx vy 0)) n)
+pub pair-same : (v : ℤ) (r c : ℕ) → v ≡ pairOf v v r c
+unfolding pairOf if_then_else_
+pair-same v r c = go (eqb (c % 2) 0)
+  where
+    go : (t : Bool) → v ≡ (if t then v else v)
+    go true = refl
+    go false = refl
 
 -- a turn of the loop over rows: row r begins at twice its first cell
 pub pairs-more : {l l′ : List ℤ} (l₀ : List ℤ) (s x y : ℕ) (vx vy : ℤ) (w r : ℕ) → l ≡ rows l₀ (2 * s) (2 * x) y (pairOf vx vy) (2 * w) r → l′ ≡ row l (2 * ((y + r) * s + x)) (pairOf vx vy 0) (2 * w)
@@ -55,10 +43,6 @@ pairs-more {l} l₀ s x y vx vy w r e f =
 -- the numbers of cells that lie inside lie inside
 pub pairs-inside : {s x y w h n m : ℕ} → m ≡ 2 * n → Inside s x y w h n → Inside (2 * s) (2 * x) y (2 * w) h m
 pairs-inside {s} {x} {y} {w} {h} e i = record { some = omega arith; across = omega arith; down = omega arith }
-
--- what was passed on is what was meant
-pub stored-read : {l : List ℤ} (mv : List ℤ) (s x y w h : ℕ) {vx vy : ℤ} → SFits w32 vx → SFits w32 vy → l ≡ storedVectors mv s x y w h (read w32 vx) (read w32 vy) → l ≡ storedVectors mv s x y w h vx vy
-stored-read mv s x y w h f g e = e ∙ λ i. storedVectors mv s x y w h (toZ-ofZ f i) (toZ-ofZ g i)
 
 -- ---- lengths are kept
 pub vectors-length : (mv : List ℤ) (s x y w h : ℕ) (vx vy : ℤ) → length (storedVectors mv s x y w h vx vy) ≡ length mv

@@ -35,8 +35,8 @@ pub enum Near {
     Here(Vector),
 }
 
-// C, or D where C is missing.
-pub fn or_else(c: Near, d: Near) -> Near
+// The first of two, or the second where the first is missing.
+fn or_else(c: Near, d: Near) -> Near
     ensures { λ r. ⌜ r ≡ orElse c d ⌝ }
 {
     match c {
@@ -189,16 +189,14 @@ pub fn move_component(p: Sixths, precision: Svq3MvPrecision, d: Units) -> Moved
     }
 }
 
-// The vector to n cells, from number `at` on.
-fn fill_vectors_row(mv: &mut [i32], at: usize, n: usize, vx: i32, vy: i32)
-    requires { ⌜ at + 2 * n ≤ length (now mv) ⌝ }
-    ensures { λ _. ⌜ now (mv .exit) ≡ row (now (mv .entry)) at (pairOf vx vy 0) (2 * n) ⌝ }
+// Vector 0 to four cells, from number `at` on.
+fn clear_vectors_row(mv: &mut [i32], at: usize)
+    requires { ⌜ at + 8 ≤ length (now mv) ⌝ }
+    ensures { λ _. ⌜ now (mv .exit) ≡ row (now (mv .entry)) at (pairOf (pos 0) (pos 0) 0) 8 ⌝ }
 {
     let mut c = 0;
-    while c < n {
-        let i = at + 2 * c;
-        mv[i] = vx;
-        mv[i + 1] = vy;
+    while c < 8 {
+        mv[at + c] = 0;
         c += 1;
     }
 }
@@ -215,82 +213,20 @@ pub fn mark_row(marks: &mut [u8], at: usize, n: usize)
     }
 }
 
-// The vector, marked 1, to wide × high cells from column x of row y on; rows have `stride` cells.
-fn store_rows(
-    mv: &mut [i32],
-    marks: &mut [u8],
-    stride: usize,
-    x: usize,
-    y: usize,
-    wide: usize,
-    high: usize,
-    vx: i32,
-    vy: i32,
-)
-    requires { ⌜ (stride ≤ 16384) × (length (now mv) ≡ 2 * length (now marks)) × Inside stride x y wide high (length (now marks)) ⌝ }
-    ensures { λ _. ⌜ now (mv .exit) ≡ storedVectors (now (mv .entry)) stride x y wide high vx vy ⌝ }
-    ensures { λ _. ⌜ now (marks .exit) ≡ storedMarks (now (marks .entry)) stride x y wide high ⌝ }
-{
-    let mut r = 0;
-    while r < high {
-        let at = (y + r) * stride + x;
-        fill_vectors_row(mv, 2 * at, wide, vx, vy);
-        mark_row(marks, at, wide);
-        r += 1;
-    }
-}
-
-// The same, with the widths of partitions known to the compiler.
-pub fn store_cells(
-    mv: &mut [i32],
-    marks: &mut [u8],
-    stride: usize,
-    x: usize,
-    y: usize,
-    wide: usize,
-    high: usize,
-    vx: i32,
-    vy: i32,
-)
-    requires { ⌜ (stride ≤ 16384) × (length (now mv) ≡ 2 * length (now marks)) × Inside stride x y wide high (length (now marks)) ⌝ }
-    ensures { λ _. ⌜ now (mv .exit) ≡ storedVectors (now (mv .entry)) stride x y wide high vx vy ⌝ }
-    ensures { λ _. ⌜ now (marks .exit) ≡ storedMarks (now (marks .entry)) stride x y wide high ⌝ }
-{
-    if wide == 4 {
-        store_rows(mv, marks, stride, x, y, 4, high, vx, vy);
-    } else if wide == 2 {
-        store_rows(mv, marks, stride, x, y, 2, high, vx, vy);
-    } else if wide == 1 {
-        store_rows(mv, marks, stride, x, y, 1, high, vx, vy);
-    } else {
-        store_rows(mv, marks, stride, x, y, wide, high, vx, vy);
-    }
-}
-
-// The vector, marked 1, to the cells of a partition, in a picture of `cols` macroblocks a row.
-pub fn store_partition_mv(
-    mv: &mut [i32],
-    marks: &mut [u8],
-    cols: usize,
-    x: usize,
-    y: usize,
-    wide: usize,
-    high: usize,
-    vx: i32,
-    vy: i32,
-)
-    requires { ⌜ (cols ≤ 4096) × (length (now mv) ≡ 2 * length (now marks)) × Inside (4 * cols) x y wide high (length (now marks)) ⌝ }
-    ensures { λ _. ⌜ now (mv .exit) ≡ storedVectors (now (mv .entry)) (4 * cols) x y wide high vx vy ⌝ }
-    ensures { λ _. ⌜ now (marks .exit) ≡ storedMarks (now (marks .entry)) (4 * cols) x y wide high ⌝ }
-{
-    store_cells(mv, marks, 4 * cols, x, y, wide, high, vx, vy);
-}
-
 // A skipped macroblock: its sixteen cells get vector 0, marked 1.
 pub fn mark_macroblock(mv: &mut [i32], marks: &mut [u8], cols: usize, column: usize, row: usize)
     requires { ⌜ (cols ≤ 4096) × (length (now mv) ≡ 2 * length (now marks)) × Inside (4 * cols) (4 * column) (4 * row) 4 4 (length (now marks)) ⌝ }
     ensures { λ _. ⌜ now (mv .exit) ≡ storedVectors (now (mv .entry)) (4 * cols) (4 * column) (4 * row) 4 4 (pos 0) (pos 0) ⌝ }
     ensures { λ _. ⌜ now (marks .exit) ≡ storedMarks (now (marks .entry)) (4 * cols) (4 * column) (4 * row) 4 4 ⌝ }
 {
-    store_partition_mv(mv, marks, cols, 4 * column, 4 * row, 4, 4, 0, 0);
+    let stride = 4 * cols;
+    let x = 4 * column;
+    let y = 4 * row;
+    let mut r = 0;
+    while r < 4 {
+        let at = (y + r) * stride + x;
+        clear_vectors_row(mv, 2 * at);
+        mark_row(marks, at, 4);
+        r += 1;
+    }
 }

@@ -19,7 +19,7 @@ use Rattle.record.specs.Record.{noVectors, noLevels, skipRecord}
 use Rattle.record.specs.Items.{itemCoded, readLists, writeLists, readItems}
 use Rattle.record.specs.Write.{signedNumbers, itemBytes, itemsBytes, restBytes, recordBytes}
 use Rattle.record.specs.Parse.{field, readSigneds, parseItems, parseResidual, parseMotion, parseRecord}
-use Rattle.questions.specs.Questions.{gridRight, planesRight, stateRight, referenceThere, callRight, askStart, askQuantiser, askPlace, askRest, askCall, askRun}
+use Rattle.questions.specs.Questions.{gridRight, planesRight, stateRight, referenceThere, callRight, placeIn, askStart, askQuantiser, askPlace, askRest, askCall, askRun}
 use Rattle.calls.specs.Calls.{callIn}
 use Rattle.checking.specs.Records.{recordsIn, records}
 use Rattle.reading.specs.Read.{predictorAt, moved, readVectors, quantiserIn, readQuantiser, recordOf, atFirst, readResidual, readCoded, readMacroblock}
@@ -50,7 +50,7 @@ refused-alone = (refl, refl, refl, refl, refl)
 
 -- no call; a call outside the grid
 pub no-record : (printed (1 ∷ 1 ∷ 0 ∷ 0 ∷ 5 ∷ 0 ∷ []) ≡ bits0) × (printed (1 ∷ 1 ∷ 0 ∷ 0 ∷ 5 ∷ 1 ∷ 1 ∷ 0 ∷ 1 ∷ 152 ∷ []) ≡ bits0 ++ refused5)
-unfolding bits0 refused5 printed headerIn ranged readNumber lowThen if_then_else_ callsFrom callIn bitsLine refusedLine countLine line decimal digits start room recordLines printedRun ran ranFrom ended withCall transcriptOf decoded outcomeOf askCall askRun askStart askQuantiser askPlace askRest gridRight planesRight stateRight referenceThere callRight records recordsIn untilEnd
+unfolding bits0 refused5 printed headerIn ranged readNumber lowThen if_then_else_ callsFrom callIn bitsLine refusedLine countLine line decimal digits start room recordLines printedRun ran ranFrom ended withCall transcriptOf decoded outcomeOf askCall askRun askStart askQuantiser askPlace askRest gridRight planesRight stateRight referenceThere callRight placeIn records recordsIn untilEnd
 no-record = (refl, refl)
 
 -- document 01's example: `00000100000c000005`, `bits 5`
@@ -58,5 +58,5 @@ unfoldable pub one : List ℕ
 one = 48 ∷ 48 ∷ 48 ∷ 48 ∷ 48 ∷ 49 ∷ 48 ∷ 48 ∷ 48 ∷ 48 ∷ 48 ∷ 99 ∷ 48 ∷ 48 ∷ 48 ∷ 48 ∷ 48 ∷ 53 ∷ 10 ∷ 98 ∷ 105 ∷ 116 ∷ 115 ∷ 32 ∷ 53 ∷ 10 ∷ []
 
 pub printed-one : printed (1 ∷ 1 ∷ 0 ∷ 0 ∷ 5 ∷ 1 ∷ 0 ∷ 0 ∷ 1 ∷ 152 ∷ []) ≡ one
-unfolding one printed headerIn ranged readNumber lowThen if_then_else_ callsFrom callIn hexDigit hexBytes hexLine bitsLine countLine line decimal digits start room recordLines printedRun ran ranFrom ended withCall transcriptOf decoded outcomeOf askCall askStart askQuantiser askPlace askRest gridRight planesRight stateRight referenceThere callRight records recordsIn untilEnd floorZ satZ overZ clampZ minZ maxZ medianZ bitList codeFrom code signedOf signedCode groups number sent received signedNumber readSigned patterns pattern quadrantCoded partitionWidth partitionHeight numMotionVectors offsetX offsetY precision cellAt nearAt leftOf aboveOf aboveLeftOf medianOf combined predicted heldIn predictor roundToSixths convertPredictor summed scaled storedPart clippedPart noVectors noLevels skipRecord itemCoded readLists writeLists readItems signedNumbers itemBytes itemsBytes restBytes recordBytes field readSigneds parseItems parseResidual parseMotion parseRecord predictorAt moved readVectors quantiserIn readQuantiser recordOf atFirst readResidual readCoded readMacroblock
+unfolding one printed headerIn ranged readNumber lowThen if_then_else_ callsFrom callIn hexDigit hexBytes hexLine bitsLine countLine line decimal digits start room recordLines printedRun ran ranFrom ended withCall transcriptOf decoded outcomeOf askCall askStart askQuantiser askPlace askRest gridRight planesRight stateRight referenceThere callRight placeIn records recordsIn untilEnd floorZ satZ overZ clampZ minZ maxZ medianZ bitList codeFrom code signedOf signedCode groups number sent received signedNumber readSigned patterns pattern quadrantCoded partitionWidth partitionHeight numMotionVectors offsetX offsetY precision cellAt nearAt leftOf aboveOf aboveLeftOf medianOf combined predicted heldIn predictor roundToSixths convertPredictor summed scaled storedPart clippedPart noVectors noLevels skipRecord itemCoded readLists writeLists readItems signedNumbers itemBytes itemsBytes restBytes recordBytes field readSigneds parseItems parseResidual parseMotion parseRecord predictorAt moved readVectors quantiserIn readQuantiser recordOf atFirst readResidual readCoded readMacroblock
 printed-one = refl

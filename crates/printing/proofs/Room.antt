@@ -1,9 +1,9 @@
 -- The room is enough: no run of the printer is refused by 8.
 -- Assumes nothing.
-use mathlib.Core.Path.{_≡_, refl, sym, ap, _∙_, subst}
+use mathlib.Core.Path.{_≡_, refl, sym, ap, _∙_}
 use mathlib.Core.Bool.{Bool, true, false, cond, _&&_, not}
 use mathlib.Core.List.{List, [], _∷_}
-use Prim.Native.Nat.{ℕ, zero, suc, _+_, _-_, _*_, _^_, _≤_}
+use Prim.Native.Nat.{ℕ, zero, suc, _+_, _-_, _*_, _≤_}
 use native.Mathlib.Nat.{le-of-lt}
 use native.Mathlib.Omega.{arith}
 use borrow.Author.Tests.{le-leb}
@@ -16,7 +16,7 @@ use Rattle.ints.specs.Z.{if_then_else_}
 use Rattle.refusal.specs.Got.{Got, got, refused, after, andThen, mapGot}
 use Rattle.refusal.specs.declared.Refusal.{Refusal}
 use Rattle.refusal.specs.declared.Refusal.the-variants.{GridSize, StateLength, MissingReference, ReferenceLength, CallRange, QuantiserRange, BitPlace, TranscriptRoom, Truncated, BadBitWidth, InvalidFrameCode, InvalidQuantiser, LevelPosition}
-use Rattle.refusal.proofs.Formats.{got-value, got-count}
+use Rattle.refusal.proofs.Formats.{got-value}
 use Rattle.refusal.proofs.Local.{apart}
 use Rattle.bits.specs.Bits.{bitList}
 use Rattle.bits.specs.Code.{bitValue, codeFrom, code}
@@ -33,7 +33,7 @@ use Rattle.record.specs.Items.{itemCoded, itemBook, itemStart, itemPlace, readL
 use Rattle.record.specs.Write.{recordBytes}
 use Rattle.record.proofs.ListKinds.{start-fits}
 use Rattle.record.proofs.Lengths.{record-length, head-range}
-use Rattle.questions.specs.Questions.{thenAsk, gridRight, planesRight, stateRight, referenceThere, callRight, askStart, askQuantiser, askPlace, askRest, askCall, askRun}
+use Rattle.questions.specs.Questions.{thenAsk, gridRight, planesRight, stateRight, referenceThere, callRight, placeIn, askStart, askQuantiser, askPlace, askRest, askCall, askRun}
 use Rattle.questions.specs.declared.Call.{Call}
 use Rattle.questions.specs.declared.Asked.{Asked}
 use Rattle.questions.specs.declared.Asked.the-variants.{Yes, No}
@@ -42,9 +42,9 @@ use Rattle.reading.specs.Read.{Context, Moving, moved, readVectors, quantiserIn
 use Rattle.outcome.specs.State.{State, contextOf, lengthsOf}
 use Rattle.outcome.specs.Decode.{applied, Outcome, kept, outcomeOf, unlessRefused, decoded}
 use Rattle.outcome.specs.declared.MbAnswer.{MbAnswer}
-use Rattle.outcome.specs.declared.MbAnswer.the-variants.{Accepted, Refused}
+use Rattle.outcome.specs.declared.MbAnswer.the-variants.{Refused}
 use Rattle.report.specs.Run.{Ran, ended, withCall, onward, ranFrom, ran, stopOf}
-use Rattle.report.specs.declared.Stop.the-variants.{Done, By}
+use Rattle.report.specs.declared.Stop.the-variants.{By}
 use Rattle.theorems.proofs.Traces.{Kind, no, yes, kind, path-range}
 use Rattle.header.specs.Header.{HeaderRange, callsFrom}
 use Rattle.printing.specs.Print.{start, room}
@@ -239,13 +239,13 @@ module _ (s : State) (size place : ℕ) where
 
   run-never : askRun (s .cols) (s .rows) (lengthsOf s) (s .quantiser) size place ≡ No TranscriptRoom → ⊥
   unfolding askRun askQuantiser askPlace
-  run-never = start-never _ (ask-other (leb (s .quantiser) 31) QuantiserRange _ six (ask-other (ltb size (2 ^ 61) && leb place (8 * size)) BitPlace Yes seven is-yes))
+  run-never = start-never _ (ask-other (leb (s .quantiser) 31) QuantiserRange _ six (ask-other (placeIn size place) BitPlace Yes seven is-yes))
 
   call-never : (call : Call) (free : ℕ) → 2089 ≤ free → askCall (s .cols) (s .rows) (lengthsOf s) call (s .quantiser) size place free ≡ No TranscriptRoom → ⊥
   unfolding askCall askRest askQuantiser askPlace
   call-never call free h =
       let f : thenAsk (leb 2089 free) TranscriptRoom Yes ≡ No TranscriptRoom → ⊥ = rw (le-leb 2089 free h) is-yes in
-      start-never _ (ask-other (callRight (s .cols) (s .rows) call) CallRange _ five (ask-other (leb (s .quantiser) 31) QuantiserRange _ six (ask-other (ltb size (2 ^ 61) && leb place (8 * size)) BitPlace _ seven f)))
+      start-never _ (ask-other (callRight (s .cols) (s .rows) call) CallRange _ five (ask-other (leb (s .quantiser) 31) QuantiserRange _ six (ask-other (placeIn size place) BitPlace _ seven f)))
 
 -- ---- a call
 decoded-never : (s : State) (call : Call) (bits : List ℕ) (place : ℕ) (t : List ℕ) (fill : ℕ) → 2089 ≤ length t - fill → decoded s call bits place t fill ≡ kept s t (Refused TranscriptRoom) → ⊥

@@ -2,14 +2,13 @@
 -- Assumes nothing.
 use mathlib.Core.Path.{_≡_, refl, sym, ap, _∙_}
 use mathlib.Core.Bool.{Bool, true, false, _&&_, false≢true}
-use Prim.Native.Nat.{ℕ, _*_, _≤_, _<_, _^_}
+use Prim.Native.Nat.{ℕ, _*_, _≤_}
 use native.Mathlib.Nat.{mul-le-mul}
-use native.Mathlib.Omega.{arith}
 use borrow.Author.Tests.{leb-true}
-use lib.Dec.{leb, ltb}
+use lib.Dec.{leb}
 use Rattle.refusal.specs.declared.Refusal.{Refusal}
 use Rattle.refusal.specs.declared.Refusal.the-variants.{GridSize, StateLength, MissingReference, ReferenceLength, QuantiserRange, BitPlace, TranscriptRoom}
-use Rattle.questions.specs.Questions.{thenAsk, gridRight, planesRight, stateRight, referenceThere, callRight, askStart, askQuantiser, askPlace, askRest, askCall, askRun, askReplay}
+use Rattle.questions.specs.Questions.{thenAsk, gridRight, planesRight, stateRight, referenceThere, callRight, placeIn, askStart, askQuantiser, askPlace, askRest, askCall, askRun, askReplay}
 use Rattle.questions.specs.declared.Call.{Call}
 use Rattle.questions.specs.declared.Lengths.{Lengths}
 use Rattle.questions.specs.declared.Asked.{Asked}
@@ -31,7 +30,7 @@ start-onward cols rows l next = go (gridRight cols rows) (stateRight cols rows l
     go true true true false p q r s = refl
     go true true true true p q r s = refl
 
-both : (a b : Bool) → (a && b) ≡ true → (a ≡ true) × (b ≡ true)
+pub both : (a b : Bool) → (a && b) ≡ true → (a ≡ true) × (b ≡ true)
 both true b e = (refl, e)
 both false b e = absurd (false≢true e)
 
@@ -56,7 +55,7 @@ grid-size cols rows e = let g = grid cols rows e in mul-le-mul (g .most-cols) (g
 
 pub place-onward : (size place : ℕ) (next : Asked) → askPlace size place next ≡ onward (askPlace size place Yes) next
 unfolding askPlace
-place-onward size place next = go (ltb size (2 ^ 61) && leb place (8 * size))
+place-onward size place next = go (placeIn size place)
   where
     go : (t : Bool) → thenAsk t BitPlace next ≡ onward (thenAsk t BitPlace Yes) next
     go true = refl

@@ -1,19 +1,19 @@
 -- What yes to the questions of a call says.
 -- Assumes nothing.
 use mathlib.Core.Path.{_≡_, refl}
-use mathlib.Core.Bool.{Bool, true, false, _&&_, false≢true}
+use mathlib.Core.Bool.{Bool, true, false, _&&_}
 use Prim.Native.Nat.{ℕ, _*_, _^_, _≤_, _<_}
 use native.Mathlib.Omega.{arith}
 use borrow.Author.Tests.{leb-true, ltb-true, eqb-true}
 use lib.Dec.{eqb, leb, ltb}
 use Rattle.refusal.specs.declared.Refusal.{Refusal}
 use Rattle.picture.specs.Picture.{Sized, lumaLength, chromaLength, cellCount}
-use Rattle.questions.specs.Questions.{thenAsk, gridRight, planesRight, stateRight, referenceThere, callRight, askStart, askQuantiser, askPlace, askRest, askCall}
+use Rattle.questions.specs.Questions.{thenAsk, gridRight, planesRight, stateRight, referenceThere, callRight, placeIn, askStart, askQuantiser, askPlace, askRest, askCall}
 use Rattle.questions.specs.declared.Call.{Call}
 use Rattle.questions.specs.declared.Lengths.{Lengths}
 use Rattle.questions.specs.declared.Asked.{Asked}
 use Rattle.questions.specs.declared.Asked.the-variants.{Yes, No}
-use Rattle.questions.proofs.Laws.{Grid, grid}
+use Rattle.questions.proofs.Laws.{both, Grid, grid}
 
 pub no-yes : {A : Type 0} {why : Refusal} → No why ≡ Yes → A
 no-yes e = absurd (let z : _≡_ {A = ℕ} 0 1 = cc in omega arith)
@@ -21,10 +21,6 @@ no-yes e = absurd (let z : _≡_ {A = ℕ} 0 1 = cc in omega arith)
 pub ask-yes : (t : Bool) (why : Refusal) (next : Asked) → thenAsk t why next ≡ Yes → (t ≡ true) × (next ≡ Yes)
 ask-yes true why next e = (refl, e)
 ask-yes false why next e = no-yes e
-
-pub both : (a b : Bool) → (a && b) ≡ true → (a ≡ true) × (b ≡ true)
-both true b e = (refl, e)
-both false b e = absurd (false≢true e)
 
 -- 1 to 4 passed, and what follows was asked
 pub record Started (cols rows : ℕ) (l : Lengths) (next : Asked) : Type 0 where
@@ -70,11 +66,10 @@ pub record Rest (cols rows : ℕ) (call : Call) (quantiser size place free : ℕ
   pub row : call .row < rows
   pub quantiser-most : quantiser ≤ 31
   pub size-fits : size < 2 ^ 61
-  pub place-in : place ≤ 8 * size
   pub free-bytes : 2089 ≤ free
 
 pub rest-yes : (cols rows : ℕ) (call : Call) (quantiser size place free : ℕ) → askRest cols rows call quantiser size place free ≡ Yes → Rest cols rows call quantiser size place free
-unfolding askRest askQuantiser askPlace callRight
+unfolding askRest askQuantiser askPlace callRight placeIn
 rest-yes cols rows call quantiser size place free e =
     let c = ask-yes (leb (call .mode) 7 && ltb (call .column) cols && ltb (call .row) rows) _ _ e in
     let q = ask-yes (leb quantiser 31) _ _ (c .1) in
@@ -89,7 +84,6 @@ rest-yes cols rows call quantiser size place free e =
       row = ltb-true (call .row) rows (x .1);
       quantiser-most = leb-true quantiser 31 (q .0);
       size-fits = ltb-true size (2 ^ 61) (z .0);
-      place-in = leb-true place (8 * size) (z .1);
       free-bytes = leb-true 2089 free (f .0);
     }
 

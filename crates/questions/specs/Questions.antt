@@ -36,6 +36,10 @@ referenceThere l = ltb 0 (l .ry) || ltb 0 (l .rcb) || ltb 0 (l .rcr)
 unfoldable pub callRight : ℕ → ℕ → Call → Bool
 callRight cols rows call = leb (call .mode) 7 && ltb (call .column) cols && ltb (call .row) rows
 
+-- 7: the place is at most the bit total of `size` bytes. From 2^61 bytes on, whose places do not fit 64 bits, the answer is no as well
+unfoldable pub placeIn : ℕ → ℕ → Bool
+placeIn size place = ltb size (2 ^ 61) && leb place (8 * size)
+
 -- 1 to 4, then what follows
 unfoldable pub askStart : ℕ → ℕ → Lengths → Asked → Asked
 askStart cols rows l next =
@@ -48,9 +52,9 @@ askStart cols rows l next =
 unfoldable pub askQuantiser : ℕ → Asked → Asked
 askQuantiser quantiser next = thenAsk (leb quantiser 31) QuantiserRange next
 
--- 7, of a bit slice of `size` bytes: `placeIn` of bits
+-- 7
 unfoldable pub askPlace : ℕ → ℕ → Asked → Asked
-askPlace size place next = thenAsk (ltb size (2 ^ 61) && leb place (8 * size)) BitPlace next
+askPlace size place next = thenAsk (placeIn size place) BitPlace next
 
 -- 5 to 8
 unfoldable pub askRest : ℕ → ℕ → Call → ℕ → ℕ → ℕ → ℕ → Asked

@@ -106,8 +106,10 @@ fn move_partition(
     let precision = motion.precision;
     let mx = move_component(px, precision, dx);
     let my = move_component(py, precision, dy);
-    let vx = mx.value.0;
-    let vy = my.value.0;
+    let x = mx.value;
+    let y = my.value;
+    let vx = x.0;
+    let vy = y.0;
     store_partition_in(near, marked, cx, cy, wide, high, vx, vy);
     vectors[2 * i] = vx;
     vectors[2 * i + 1] = vy;

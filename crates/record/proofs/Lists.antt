@@ -9,7 +9,7 @@ use native.Mathlib.Nat.{eq-or-lt-of-le}
 use native.Mathlib.Omega.{arith}
 use lib.Dec.{eqb, leb, eqb→eq, leb→le}
 use lib.IntN.{ℤ, pos}
-use lib.ListN.{length, take, drop, length-drop}
+use lib.ListN.{length, take, drop}
 use lib.Seq.{sets, length-sets, take-add, take-all, take-take, length-take-le}
 use Rattle.ints.specs.Z.{if_then_else_}
 use Rattle.refusal.specs.Got.{Got, got}
@@ -45,10 +45,6 @@ first-place = refl
 pub last-place : itemPlace 26 ≡ 392
 unfolding itemPlace if_then_else_
 last-place = refl
-
-pub length-itemLevels : (levels : List ℤ) (i : ℕ) → length levels ≡ 392 → i < 26 → length (itemLevels levels i) ≡ itemCount i
-unfolding itemLevels
-length-itemLevels levels i e h = length-take-le (itemCount i) (drop (itemPlace i) levels) (omega (arith, within i h, length-drop (itemPlace i) levels))
 
 -- among zeros
 pub length-noLevels : length noLevels ≡ 392

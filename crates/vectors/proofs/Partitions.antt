@@ -3,7 +3,7 @@
 use mathlib.Core.Path.{_≡_, refl, sym, ap, _∙_, subst}
 use mathlib.Core.Bool.{Bool, true, false, _&&_}
 use mathlib.Core.Logic.{_↔_, ⊎-elim}
-use Prim.Native.Nat.{ℕ, zero, suc, _+_, _-_, _*_, _/_, _%_, _^_, _<_, _≤_}
+use Prim.Native.Nat.{ℕ, zero, suc, _+_, _*_, _/_, _%_, _^_, _<_, _≤_}
 use native.Mathlib.Nat.{mul-assoc, div-one, mul-le-mul-right, mod-lt, mod-eq-of-lt, div-add-mod', div-mul-le-self, lt-div-mul-add, div-lt-iff-lt-mul, div-eq-of-lt-le, div-eq-of-lt, mul-add-div-right, mul-add-mod-self-right, mul-div-cancel, eq-or-lt-of-le, le-of-suc-le-suc}
 use native.Mathlib.Omega.{arith}
 use lib.Pow.{pow-pos}
@@ -97,9 +97,6 @@ module _ (u mode i : ℕ) (some : 0 < u) (c : Cut u mode) where
       let x : n * w ≡ n * (w / u) * u = ap (λ (t : ℕ). n * t) (sym e) ∙ sym (mul-assoc n (w / u) u) in
       rw x (mul-div-cancel (n * (w / u)) some)
 
-  whole : (n w : ℕ) → w / u * u ≡ w → n * w / u * u ≡ n * w
-  whole n w e = rw (scaled n w e, mul-assoc n (w / u) u, e)
-
   pub offset-x : offsetX mode i / u ≡ i % (16 / partitionWidth mode) * (partitionWidth mode / u)
   unfolding offsetX
   offset-x = scaled (i % (16 / partitionWidth mode)) (partitionWidth mode) (c .exact-w)
@@ -108,21 +105,9 @@ module _ (u mode i : ℕ) (some : 0 < u) (c : Cut u mode) where
   unfolding offsetY
   offset-y = scaled (i / (16 / partitionWidth mode)) (partitionHeight mode) (c .exact-h)
 
-  pub whole-x : offsetX mode i / u * u ≡ offsetX mode i
-  unfolding offsetX
-  whole-x = whole (i % (16 / partitionWidth mode)) (partitionWidth mode) (c .exact-w)
-
-  pub whole-y : offsetY mode i / u * u ≡ offsetY mode i
-  unfolding offsetY
-  whole-y = whole (i / (16 / partitionWidth mode)) (partitionHeight mode) (c .exact-h)
-
 -- n spans of w, and one more, are in k spans
 one-more : (n k w : ℕ) → n < k → n * w + w ≤ k * w
 one-more n k w h = omega (arith, mul-le-mul-right w h)
-
--- a partition starts at a whole unit
-pub aligned : (e mode i : ℕ) → e ≤ 2 → mode ≤ 7 → (offsetX mode i / 2 ^ e * 2 ^ e ≡ offsetX mode i) × (offsetY mode i / 2 ^ e * 2 ^ e ≡ offsetY mode i)
-aligned e mode i h k = (whole-x (2 ^ e) mode i (pow-pos e) (cut e mode h k), whole-y (2 ^ e) mode i (pow-pos e) (cut e mode h k))
 
 -- INSIDE: a partition lies in its macroblock
 pub inside-units : (e mode i : ℕ) → e ≤ 2 → mode ≤ 7 → i < numMotionVectors mode
@@ -191,17 +176,8 @@ exactly-one e mode a b h z k l m = record {
 }
 
 -- ---- the code's bytes by mode, and its products
-pub width-byte : (mode : ℕ) → mode ≤ 7 → 290486608640610320 / 2 ^ (8 * mode) % 256 ≡ partitionWidth mode
-unfolding partitionWidth
-width-byte mode k = eqb→eq _ _ (all-at (λ m. eqb (290486608640610320 / 2 ^ (8 * m) % 256) (partitionWidth m)) 8 tt mode (omega arith))
-
-pub height-byte : (mode : ℕ) → mode ≤ 7 → 289365106646585360 / 2 ^ (8 * mode) % 256 ≡ partitionHeight mode
-unfolding partitionHeight
-height-byte mode k = eqb→eq _ _ (all-at (λ m. eqb (289365106646585360 / 2 ^ (8 * m) % 256) (partitionHeight m)) 8 tt mode (omega arith))
-
-pub count-byte : (mode : ℕ) → mode ≤ 7 → 1155182117727109376 / 2 ^ (8 * mode) % 256 ≡ numMotionVectors mode
-unfolding numMotionVectors
-count-byte mode k = eqb→eq _ _ (all-at (λ m. eqb (1155182117727109376 / 2 ^ (8 * m) % 256) (numMotionVectors m)) 8 tt mode (omega arith))
+pub mode-byte : (word : ℕ) (table : ℕ → ℕ) → T (all (λ m. eqb (word / 2 ^ (8 * m) % 256) (table m)) 8) → (mode : ℕ) → mode ≤ 7 → word / 2 ^ (8 * mode) % 256 ≡ table mode
+mode-byte word table t mode k = eqb→eq _ _ (all-at (λ m. eqb (word / 2 ^ (8 * m) % 256) (table m)) 8 t mode (omega arith))
 
 pub offset-x-is : (mode i : ℕ) → mode ≤ 7 → i < 16 → i * partitionWidth mode % 16 ≡ offsetX mode i
 unfolding partitionWidth offsetX

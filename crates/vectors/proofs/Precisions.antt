@@ -3,7 +3,7 @@
 use mathlib.Core.Path.{_≡_, refl, sym, subst}
 use mathlib.Core.Bool.{Bool, true, false}
 use mathlib.Core.List.{List, [], _∷_, _++_}
-use Prim.Native.Nat.{ℕ, zero, suc, _≤_}
+use Prim.Native.Nat.{ℕ, _≤_}
 use native.Mathlib.Omega.{arith}
 use lib.ListN.{length}
 use Rattle.refusal.specs.Got.{got}
@@ -64,20 +64,8 @@ number-most Fullpel = omega arith
 number-most Halfpel = omega arith
 number-most Thirdpel = omega arith
 
-pub of-more : (n : ℕ) → 2 ≤ n → precisionOf n ≡ Thirdpel
-unfolding precisionOf
-of-more zero h = absurd (omega arith)
-of-more (suc zero) h = absurd (omega arith)
-of-more (suc (suc n)) h = refl
-
 pub of-number : (p : Svq3MvPrecision) → precisionOf (precisionNumber p) ≡ p
 unfolding precisionOf
 of-number Fullpel = refl
 of-number Halfpel = refl
 of-number Thirdpel = refl
-
-pub number-of : (n : ℕ) → n ≤ 2 → precisionNumber (precisionOf n) ≡ n
-unfolding precisionOf
-number-of zero h = refl
-number-of (suc zero) h = refl
-number-of (suc (suc n)) h = omega arith

@@ -4,7 +4,7 @@ ghost use Prim.Native.Nat.{_*_, _/_, _%_, _≤_, _<_, _^_};
 ghost use lib.ListN.{length, drop};
 ghost use Rattle.bits.specs.Bits.{bitList};
 ghost use Rattle.vectors.specs.Modes.{partitionWidth, partitionHeight, numMotionVectors, offsetX, offsetY};
-ghost use Rattle.vectors.specs.Precision.{precisionNumber, precisionOf, oneFlag, bothFlags, precision, precisionAnswer};
+ghost use Rattle.vectors.specs.Precision.{precisionNumber, oneFlag, bothFlags, precision, precisionAnswer};
 use bits::bitreader::bit_at;
 use refusal::Refusal;
 
@@ -86,17 +86,6 @@ pub fn precision_number(p: Svq3MvPrecision) -> u32
         Svq3MvPrecision::Fullpel => 0,
         Svq3MvPrecision::Halfpel => 1,
         Svq3MvPrecision::Thirdpel => 2,
-    }
-}
-
-// The precision of a number 0 to 2.
-pub fn precision_of(n: u32) -> Svq3MvPrecision
-    ensures { λ r. ⌜ r ≡ precisionOf n ⌝ }
-{
-    match n {
-        0 => Svq3MvPrecision::Fullpel,
-        1 => Svq3MvPrecision::Halfpel,
-        _ => Svq3MvPrecision::Thirdpel,
     }
 }
 

@@ -1,6 +1,8 @@
 -- `questions::ask_place` meets its contract: by the two tests.
+use Prim.Native.Nat.{_*_}
+use native.Mathlib.Omega.{arith}
 use borrow.Author.Tests.{lt-ltb, le-ltb, le-leb, lt-leb}
-use Rattle.questions.specs.Questions.{askPlace}
+use Rattle.questions.specs.Questions.{placeIn, askPlace}
 use borrow.Author.Needs.{needs}
 use Rattle.questions.proofs.ask_place.Statement.{statement}
 use Rattle.questions.proofs.ask_place.Tie as tie
@@ -13,17 +15,17 @@ mul-if2 c = search needs
 
 -- src/lib.rt:89:13
 returns : tie.Need-returns
-unfolding askPlace
-returns c = rw (lt-ltb _ _ (c .before .if1 .taken), le-leb _ _ (c .if2 .taken))
+unfolding placeIn askPlace
+returns c = let a = c .before .before .args in rw (lt-ltb _ _ (c .before .if1 .taken), le-leb (a .place) (8 * a .size) (omega arith))
 
 -- src/lib.rt:84:1
 returns-2 : tie.Need-returns-2
-unfolding askPlace
-returns-2 c = rw (lt-ltb _ _ (c .before .if1 .taken), lt-leb _ _ (c .if2 .left))
+unfolding placeIn askPlace
+returns-2 c = let a = c .before .before .args in rw (lt-ltb _ _ (c .before .if1 .taken), lt-leb (a .place) (8 * a .size) (omega arith))
 
 -- src/lib.rt:84:1
 returns-3 : tie.Need-returns-3
-unfolding askPlace
+unfolding placeIn askPlace
 returns-3 c = rw (le-ltb _ _ (c .if1 .left))
 
 pub ask-place-spec : {M : Type 1} → statement M

@@ -1,5 +1,6 @@
 -- `questions::ask_rest` meets its contract: by the answers, in order.
 use mathlib.Core.Path.{refl, sym, _∙_}
+use native.Mathlib.Omega.{arith}
 use borrow.Author.Tests.{le-leb, lt-leb}
 use Rattle.questions.specs.Questions.{askRest, askQuantiser}
 use Rattle.questions.proofs.Laws.{rest-is}
@@ -27,13 +28,13 @@ enum-told c = search needs
 returns : tie.Need-returns
 returns c =
     let a = c .before .before .before .before .before .before .before .args in
-    sym (rest-is (a .cols) (a .rows) (a .call) (a .quantiser) (a .size) (a .place) (a .free) _ (sym (c .before .before .before .before .before .before .call-right .ensures) ∙ c .before .before .before .before .before .if1 .taken) (le-leb _ _ (c .before .before .before .before .if2 .taken)) (sym (c .before .enum-told .given .1) ∙ c .before .before .before .ask-place .ensures) ∙ rw (le-leb _ _ (c .if3 .taken)))
+    sym (rest-is (a .cols) (a .rows) (a .call) (a .quantiser) (a .size) (a .place) (a .free) _ (sym (c .before .before .before .before .before .before .call-right .ensures) ∙ c .before .before .before .before .before .if1 .taken) (le-leb _ _ (c .before .before .before .before .if2 .taken)) (sym (c .before .enum-told .given .1) ∙ c .before .before .before .ask-place .ensures) ∙ rw (le-leb 2089 (a .free) (omega arith)))
 
 -- src/lib.rt:140:21
 returns-2 : tie.Need-returns-2
 returns-2 c =
     let a = c .before .before .before .before .before .before .before .args in
-    sym (rest-is (a .cols) (a .rows) (a .call) (a .quantiser) (a .size) (a .place) (a .free) _ (sym (c .before .before .before .before .before .before .call-right .ensures) ∙ c .before .before .before .before .before .if1 .taken) (le-leb _ _ (c .before .before .before .before .if2 .taken)) (sym (c .before .enum-told .given .1) ∙ c .before .before .before .ask-place .ensures) ∙ rw (lt-leb _ _ (c .if3 .left)))
+    sym (rest-is (a .cols) (a .rows) (a .call) (a .quantiser) (a .size) (a .place) (a .free) _ (sym (c .before .before .before .before .before .before .call-right .ensures) ∙ c .before .before .before .before .before .if1 .taken) (le-leb _ _ (c .before .before .before .before .if2 .taken)) (sym (c .before .enum-told .given .1) ∙ c .before .before .before .ask-place .ensures) ∙ rw (lt-leb 2089 (a .free) (omega arith)))
 
 -- src/lib.rt:142:27
 enum-known-why : tie.Need-enum-known-why

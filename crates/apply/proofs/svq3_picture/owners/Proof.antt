@@ -22,27 +22,27 @@ known w mode m e t c d lc ld = rw e (eqb→eq _ _ (at (λ c. eqb (w / 2 ^ (16 * 
 
 returns : tie.Need-returns
 unfolding ownerOf partitionWidth partitionHeight
-returns c = known 0x1100110011001100 (c .before .args .mode) 2 (omega (arith, c .match .keys1)) tt
+returns c = known _ (c .before .args .mode) 2 (omega (arith, c .match .keys1)) tt
 
 returns-2 : tie.Need-returns-2
 unfolding ownerOf partitionWidth partitionHeight
-returns-2 c = known 0x1111111100000000 (c .before .args .mode) 3 (omega (arith, c .match .keys2)) tt
+returns-2 c = known _ (c .before .args .mode) 3 (omega (arith, c .match .keys2)) tt
 
 returns-3 : tie.Need-returns-3
 unfolding ownerOf partitionWidth partitionHeight
-returns-3 c = known 0x3322332211001100 (c .before .args .mode) 4 (omega (arith, c .match .keys3)) tt
+returns-3 c = known _ (c .before .args .mode) 4 (omega (arith, c .match .keys3)) tt
 
 returns-4 : tie.Need-returns-4
 unfolding ownerOf partitionWidth partitionHeight
-returns-4 c = known 0x7654765432103210 (c .before .args .mode) 5 (omega (arith, c .match .keys4)) tt
+returns-4 c = known _ (c .before .args .mode) 5 (omega (arith, c .match .keys4)) tt
 
 returns-5 : tie.Need-returns-5
 unfolding ownerOf partitionWidth partitionHeight
-returns-5 c = known 0x7766554433221100 (c .before .args .mode) 6 (omega (arith, c .match .keys5)) tt
+returns-5 c = known _ (c .before .args .mode) 6 (omega (arith, c .match .keys5)) tt
 
 returns-6 : tie.Need-returns-6
 unfolding ownerOf partitionWidth partitionHeight
-returns-6 c = known 0xfedcba9876543210 (c .before .args .mode) 7 (omega (arith, c .match .keys6)) tt
+returns-6 c = known _ (c .before .args .mode) 7 (omega (arith, c .match .keys6)) tt
 
 -- a skip, and one partition alone
 alone : (mode : ℕ) → mode < 2 → Right 0 mode

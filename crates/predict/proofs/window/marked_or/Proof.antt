@@ -7,10 +7,10 @@ use Rattle.predict.proofs.window.marked_or.Statement.{statement}
 use Rattle.predict.proofs.window.marked_or.Tie as tie
 
 returns : tie.Need-returns
-returns c = (c .before .before .pre .1, sym (if-yes _ _ _ (eq-eqb _ _ (c .if1 .taken))))
+returns c = (search needs, sym (if-yes _ _ _ (eq-eqb _ _ (c .if1 .taken))))
 
 returns-2 : tie.Need-returns-2
-returns-2 c = (c .before .before .pre .0, sym (if-no _ _ _ (ne-eqb _ _ (c .if1 .left))))
+returns-2 c = (search needs, sym (if-no _ _ _ (ne-eqb _ _ (c .if1 .left))))
 
 pub marked-or-spec : {M : Type 1} → statement M
 marked-or-spec = tie.close (tie.spec (λ c. search needs) returns returns-2)

@@ -26,32 +26,32 @@ held c =
     (s .pre .1 .1 .1 .follows) (c .predict-mv .ensures)
 
 -- there are at most 16 partitions
-few : (c : tie.After-store-partition-in) → c .before .before .before .before .before .before .before .before .before .before .before .before .before .before .before .before .before .before .before .args .i < 16
-few c = let s = c .before .before .before .before .before .before .before .before .before .before .before .before .before .before .before .before .before .before .before in omega (arith, num-most (s .args .motion .call .mode) (s .pre .0 .0 .mode), s .pre .0 .1)
+few : (c : tie.After-store-partition-in) → c .before .before .before .before .before .before .before .before .before .before .before .before .before .before .before .before .before .before .before .before .before .args .i < 16
+few c = let s = c .before .before .before .before .before .before .before .before .before .before .before .before .before .before .before .before .before .before .before .before .before in omega (arith, num-most (s .args .motion .call .mode) (s .pre .0 .0 .mode), s .pre .0 .1)
 
 slice-set-from-vx : tie.Need-slice-set-from-vx
-slice-set-from-vx c = omega (arith, few c, c .before .before .before .before .before .before .before .before .before .before .before .before .before .before .before .before .before .before .before .pre .1 .0)
+slice-set-from-vx c = omega (arith, few c, c .before .before .before .before .before .before .before .before .before .before .before .before .before .before .before .before .before .before .before .before .before .pre .1 .0)
 
 slice-set-from-vy : tie.Need-slice-set-from-vy
-slice-set-from-vy c = simp length-set (omega (arith, few c, c .before .before .before .before .before .before .before .before .before .before .before .before .before .before .before .before .before .before .before .pre .1 .0))
+slice-set-from-vy c = simp length-set (omega (arith, few c, c .before .before .before .before .before .before .before .before .before .before .before .before .before .before .before .before .before .before .before .before .before .pre .1 .0))
 
 add-result : tie.Need-add-result
-add-result c = omega (arith, c .bit-value .ensures, value-most (c .before .before .before .before .before .before .before .move-component .result .clipped), c .before .before .before .before .before .before .before .before .before .before .before .before .before .before .before .before .before .before .before .before .pre .0 .2)
+add-result c = omega (arith, c .bit-value .ensures, value-most (c .before .before .before .before .before .before .before .before .before .move-component .result .clipped), c .before .before .before .before .before .before .before .before .before .before .before .before .before .before .before .before .before .before .before .before .before .before .pre .0 .2)
 
 add-result-2 : tie.Need-add-result-2
-add-result-2 c = omega (arith, c .bit-value2 .ensures, c .before .bit-value .ensures, value-most (c .before .before .before .before .before .before .before .before .move-component .result .clipped), value-most (c .before .before .before .before .before .before .before .move-component2 .result .clipped), c .before .before .before .before .before .before .before .before .before .before .before .before .before .before .before .before .before .before .before .before .before .pre .0 .2)
+add-result-2 c = omega (arith, c .bit-value2 .ensures, c .before .bit-value .ensures, value-most (c .before .before .before .before .before .before .before .before .before .before .move-component .result .clipped), value-most (c .before .before .before .before .before .before .before .before .before .move-component2 .result .clipped), c .before .before .before .before .before .before .before .before .before .before .before .before .before .before .before .before .before .before .before .before .before .before .before .pre .0 .2)
 
 returns : tie.Need-returns
 returns c m t =
-    let s = c .before .before .before .before .before .before .before .before .before .before .before .before .before .before .before .before .before .before .before .before .before in
+    let s = c .before .before .before .before .before .before .before .before .before .before .before .before .before .before .before .before .before .before .before .before .before .before .before in
     let a = s .args in
-    let mx = c .before .before .before .before .before .before .before .before .move-component in
-    let my = c .before .before .before .before .before .before .before .move-component2 in
+    let mx = c .before .before .before .before .before .before .before .before .before .before .move-component in
+    let my = c .before .before .before .before .before .before .before .before .before .move-component2 in
     let st = c .before .before .store-partition-in in
-    moved-at (a .motion) (a .i) (s .pre .0 .0) (s .pre .0 .1) (c .before .before .before .before .before .before .before .before .before .before .before .before .before .before .before .partition-offset-x .ensures) (c .before .before .before .before .before .before .before .before .before .before .before .before .before .before .partition-offset-y .ensures) (c .before .before .before .before .before .before .before .before .before .before .before .before .before .before .before .before .before .partition-width .ensures) (c .before .before .before .before .before .before .before .before .before .before .before .before .before .before .before .before .partition-height .ensures)
-    (a .dx .0) (a .dy .0) m t (c .before .before .before .before .before .before .before .before .before .before .before .predict-mv .ensures)
-    (field-read (mx .result .value .0) (c .before .before .before .before .before .before .struct-told .given .0 .1 .1 .0 .1) ∙ mx .ensures .0)
-    (field-read (my .result .value .0) (c .before .before .before .before .before .struct-told2 .given .0 .1 .1 .0 .1) ∙ my .ensures .0)
+    moved-at (a .motion) (a .i) (s .pre .0 .0) (s .pre .0 .1) (c .before .before .before .before .before .before .before .before .before .before .before .before .before .before .before .before .before .partition-offset-x .ensures) (c .before .before .before .before .before .before .before .before .before .before .before .before .before .before .before .before .partition-offset-y .ensures) (c .before .before .before .before .before .before .before .before .before .before .before .before .before .before .before .before .before .before .before .partition-width .ensures) (c .before .before .before .before .before .before .before .before .before .before .before .before .before .before .before .before .before .before .partition-height .ensures)
+    (a .dx .0) (a .dy .0) m t (c .before .before .before .before .before .before .before .before .before .before .before .before .before .predict-mv .ensures)
+    (field-read _ (c .before .before .before .before .before .before .struct-told .given .0 .1) ∙ mx .ensures .0)
+    (field-read _ (c .before .before .before .before .before .struct-told2 .given .0 .1) ∙ my .ensures .0)
     (c .before .bit-value .ensures ∙ ap bitValue (mx .ensures .1))
     (c .bit-value2 .ensures ∙ ap bitValue (my .ensures .1))
     (st .ensures .0) (st .ensures .1)
@@ -69,7 +69,7 @@ move-partition-spec =
     (λ c κs. (c .before .before .before .before .before .before .before .before .before .pre .0 .0 .within, part c))
     (λ c κs. held (c .before .before) .0)
     (λ c κs. held (c .before .before .before) .1)
-    (λ c κs. part (c .before .before .before .before .before .before .before .before .before))
+    (λ c κs. part (c .before .before .before .before .before .before .before .before .before .before .before))
     (λ c. omega (arith, few c))
     (λ c. omega (arith, few c))
     slice-set-from-vx
