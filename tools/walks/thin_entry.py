@@ -5,10 +5,10 @@
 
 The entry moves on a small struct that its caller lends, and leaves the work to covered functions:
 
-    fn F(s0: &mut [u8], .., p: &mut P, v0: V, ..) -> E {
+    fn F(s0: &mut [u8], .., p: &mut P, v0: V, ..) -> A {
         let f = p.f; ..
         let a = G(s0, .., the values and the fields in some order);
-        let n = K(f, .., a);
+        let n = K(the fields and a, or a alone);
         p.f = n.f; ..
         a
     }
@@ -123,7 +123,6 @@ use denote.Signature.{plain}
 use denote.Steps.{only, opens, closes, owned, peeks, heard, nothing}
 use denote.Struct.Steps.{spelt}
 use denote.Struct.Laws as LL
-use denote.Enum.Laws as EL
 use denote.Triple.Entry.{onEntry}
 use denote.Triple.Spec.{Meets, tripleOf}
 use denote.Triple.Statement.{Contract, Triple}
@@ -135,17 +134,22 @@ use denote.Exit.{yes}'''
 
 
 def generate(s):
-    crate, module, fn = s['crate'], s['module'], s['fn']
-    (callee, *_), (after, *_), (place, place_crate) = s['callee'], s['after'], s['place']
+    (fn, crate, *modules), (callee, *_), (after, *_), (place, place_crate) = s['fn'], s['callee'], s['after'], s['place']
     slices, fields, values, answer = s['slices'], s['fields'], s['values'], s['answer']
-    # the other functions' crates, and the modules that they stand in there
-    stands = {s[f][0]: s[f][1:] for f in ('callee', 'after')} | {fn: [crate, module]}
+    # the fields that the second call takes before the answer
+    kept = [j for j, (f, _) in enumerate(fields) if f in s['keeps']]
+    # the answer's type, an enum or a struct, by whose laws it is typed and had for nothing
+    laws, of_enum = {'enum': ('EL', ' tt'), 'struct': ('LL', '')}[s['kind']]
+    # each function's crate, and the modules that it stands in there
+    stands = {s[f][0]: s[f][1:] for f in ('fn', 'callee', 'after')}
     k, nv, nf = len(slices), len(values), len(fields)
     muts = [i for i in range(k) if slices[i][1] == 'mut']
     shared = [i for i in range(k) if slices[i][1] == '&']
-    F, G, K = dash(fn), dash(callee), dash(after)
-    root = f'Rattle.{crate}.proofs.{module}'
-    proofs = lambda name: '.'.join([f'Rattle.{stands[name][0]}.proofs', *stands[name][1:], name])
+    # the names under which the proof has the three functions; a callee's own name may be one of the walk's
+    F, G, K = dash(fn), 'callee', 'after'
+    root = '.'.join([f'Rattle.{crate}.proofs', *modules])
+    home = lambda of, what: f'Rattle.{of}.{what}' if of == crate else f'Rattle.{of}.{what}'
+    proofs = lambda name: '.'.join([home(stands[name][0], 'proofs'), *stands[name][1:], name])
     key = lambda name: f'#{stands[name][0]}·{dash(name)}'
     calls = lambda name: 'code.calls-' + '·'.join(dash(part) for part in [*stands[name], name])
     elem = lambda i: slices[i][2]
@@ -167,20 +171,21 @@ def generate(s):
 
     o = []
     w = o.append
-    w(f'-- `{crate}::{module}::{fn}` meets its contract: a walk of its MIR. The borrow of the struct is opened and its fields are read, `{callee}` is called on the slices, the values and the fields, `{after}` on the fields and the answer, its fields are stored, and the borrow is closed there.')
+    w(f'-- `{"::".join([crate, *modules, fn])}` meets its contract: a walk of its MIR. The borrow of the struct is opened and its fields are read, `{callee}` is called on the slices, the values and the fields, `{after}` on the fields and the answer, its fields are stored, and the borrow is closed there.')
     w('-- A `&mut` slice is given to the callee for good, at its own lifetime, share and name. What a `&` slice owns is had twice. Written by tools/walks/thin_entry.py, which counts the positions.')
     w('-- Assumes nothing.')
     w(USES)
+    if laws == 'EL':
+        w('use denote.Enum.Laws as EL')
     for u in s['uses']:
         w('use ' + u)
-    for (name, home), as_name in (((place, place_crate), 'T'), (answer, 'E')):
-        w(f'use Rattle.{home}.specs.declared.{name}.{{{name}}}')
-        w(f'use Rattle.{home}.proofs.{name} as {as_name}\nuse Rattle.{home}.proofs.{name}.Laws as {as_name}′')
+    for (name, of), as_name in (((place, place_crate), 'T'), (answer, 'E')):
+        w(f'use {home(of, "specs")}.declared.{name}.{{{name}}}')
+        w(f'use {home(of, "proofs")}.{name} as {as_name}\nuse {home(of, "proofs")}.{name}.Laws as {as_name}′')
     for j in range(nv):
         if is_struct(j):
             w(f'use {values[j][2]}.{{{values[j][1]}}}\nuse {values[j][3]} as {alias(j)}\nuse {values[j][3]}.Laws as {alias(j)}′')
-    for name in (callee, after):
-        d = dash(name)
+    for name, d in ((callee, G), (after, K)):
         w(f'use {proofs(name)} as {d}\nuse {proofs(name)}.Symbol as {d}-def\nuse {proofs(name)}.Symbol.{{name as {key(name)}}}\nuse {proofs(name)}.Met as {d}-thm')
     w(f'use {root}.{fn}.Key.{{name as {key(fn)}}}\nuse {root}.{fn} as {F}\nuse {root}.{fn}.Statement as stated\nuse {root}.{fn}.Code as code\n')
 
@@ -240,15 +245,15 @@ def generate(s):
     w(f'  -- what the callee ensures\n  abbrev Said : {answer[0]} → Lasts → Type 0\n  Said m zs = {s["fact"]}\n')
 
     # the second
-    w(f'  -- the second call, on the fields and the answer m, whose machine value is u\n  abbrev AArg : Type 0\n  AArg = {nested(["ℕ"] * nf + [answer[0]])}\n')
-    w(f'  abbrev aa : {answer[0]} → AArg\n  aa m = {tuple_of([f"h .{f}" for f, _ in fields] + ["m"])}\n')
-    w(f'  abbrev AVals : Type 0\n  AVals = {nested(["List Val"] * (nf + 1))}\n')
-    w(f'  abbrev avals : Val → AVals\n  avals u = {tuple_of([f"vint {WIDTH[t][0]} (h .{f}) ∷ []" for f, t in fields] + ["u ∷ []"])}\n')
+    w(f'  -- the second call, on the answer m, whose machine value is u\n  abbrev AArg : Type 0\n  AArg = {nested(["ℕ"] * len(kept) + [answer[0]])}\n')
+    w(f'  abbrev aa : {answer[0]} → AArg\n  aa m = {tuple_of([f"h .{fields[j][0]}" for j in kept] + ["m"])}\n')
+    w(f'  abbrev AVals : Type 0\n  AVals = {nested(["List Val"] * (len(kept) + 1))}\n')
+    w(f'  abbrev avals : Val → AVals\n  avals u = {tuple_of([f"vint {WIDTH[fields[j][1]][0]} (h .{fields[j][0]}) ∷ []" for j in kept] + ["u ∷ []"])}\n')
     w(f'  abbrev aft : {answer[0]} → Val → After 𝓤 H A at-mem run .Ghost\n  aft m u = ((tt, tt, tt, aa m, avals u), tt)\n')
-    arows = items([t for _, t in fields] + ['E.the-row'])
+    arows = items([fields[j][1] for j in kept] + ['E.the-row'])
     apre = f'‵ ftrue ∷ ‵ (owns ({arows}) (aa m) (avals u)) ∷ []'
     w(f'  asked-after : (m : {answer[0]}) (u : Val) → ent 𝓤 (⋆ 𝓤 H A ({apre})) (After 𝓤 H A at-mem run .pre (aft m u))\n  asked-after m u = qed W ({apre}) ∵ join ! $ frame ! $ done !\n')
-    w(f'  abbrev ALasts : Type 0\n  ALasts = {nested(["Unit {0}"] * (nf + 1))}\n')
+    w(f'  abbrev ALasts : Type 0\n  ALasts = {nested(["Unit {0}"] * (len(kept) + 1))}\n')
     w(f'  abbrev Moved : {answer[0]} → {place} → Type 0\n  Moved m n = {s["moved"]}\n')
 
     # the exit
@@ -297,7 +302,7 @@ def generate(s):
         x.move(f'x{i}', cur)
         x.step('fjoin', 2, f'H{i}')
         cur = f'H{i}'
-    x.add('owned ! E.the-row (Is E.the-row) (EL.makes E.the-type E′.the-plain 𝓤 H A) m _ is $', 'r')
+    x.add(f'owned ! E.the-row (Is E.the-row) ({laws}.makes E.the-type E′.the-plain 𝓤 H A) m _ is $', 'r')
     x.move(cur, 'r')
     x.say('done !')
     w('      ' + x.text('      ') + '\n')
@@ -441,19 +446,19 @@ def generate(s):
     x.move('res')
     x.line(x.shown())
     x.under('peeks ! E.the-row (Is E.the-row) (shows 𝓤 H A E.the-row) m (u ∷ []) (λ is.')
-    typed = 'EL.lawful E.the-type E′.the-laws 𝓤 H A W tt .typed m _ is .0'
+    typed = f'{laws}.lawful E.the-type E′.the-laws 𝓤 H A W{of_enum} .typed m _ is .0'
     x.say(f'land ! (from ! (stop !)) (init ! {L(loc_a)} refl ({typed})) $')
     x.line('the second call')
     x.step('nothing', 0, 'D')
     x.move('res', 'D')
     x.step('fjoin', 2, 'D')
-    for j in reversed(range(nf)):
+    for j in reversed(kept):
         field_owned(j)
         x.step('fjoin', 2, 'D')
     x.step('nothing', 0, 'T2')
     x.say('use2 W (raw (After 𝓤 H A at-mem run .pre (aft m u))) (asked-after m u) $')
     x.put(2, 'pre')
-    x.under(f'calls-at ! fm (After 𝓤 H A at-mem run) known′ (aft m u) {passed([L(l) for l in loc_f] + [L(loc_a)])} (λ u′.')
+    x.under(f'calls-at ! fm (After 𝓤 H A at-mem run) known′ (aft m u) {passed([L(loc_f[j]) for j in kept] + [L(loc_a)])} (λ u′.')
     x.line()
     x.say(f'use1 W (later (some (λ (n : {place}). (‵ ftrue ⊛ ‵ (T.the-row .own n (u′ ∷ []))) ⊛ raw (ensured 𝓤 H A {K}.ended ({K}.clauses 𝓤 H A at-mem run) tt (aa m) tt n)))) (id⊢ 𝓤 _) $ await ! tt $')
     x.under('pick ! (λ n.')
@@ -519,8 +524,8 @@ def generate(s):
     goes = [(f'goes-none-slice 𝓤 H A W {k + 1} ({i} ∷ []) tt (plain (λ _. {elem(i)})) yes' if i in shared else f'goes-gave-slice 𝓤 H A W {k + 1} {i} tt (plain (λ _. {elem(i)}))') for i in range(k)]
     goes += [f'goes-ref 𝓤 H A W {k + 1} {k} tt (plain (λ _. T.the-row))'] + [f'goes-none 𝓤 H A W {k + 1} (λ _. {row(j)}) yes (λ κs x f. refl)' for j in range(nv)]
     w(f'meets 𝓤 H A W mem run 𝓣 known known′ =\n    walk-meets 𝓤 H A {F}.ended stayed W {tuple_of(goes)} ({F}.clauses 𝓤 H A mem run)\n    (WpFn 𝓤 H (𝓣 .C) (𝓣 .Λ) code.function) (WpFn-mono 𝓤 H (W .laws) 𝓣 code.function) (walks 𝓤 H A W mem run (𝓣 .C) (𝓣 .Λ) (fmOf 𝓤 H (W .laws) 𝓣) known known′)\n')
-    cite = lambda c, name: f'(cited 𝓤 H ({c} 𝓤 H (𝓖 .A) (𝓜 .mem) (𝓡 .run)) 𝓜 𝓡 code.env {key(name)} {dash(name)}-def.routine {calls(name)} ({dash(name)}-thm.met 𝓤 H 𝓜 𝓖 𝓡))'
-    w(f'pub {F}-spec : {{M : Type 1}} → stated.statement M\nunfolding code.routine tablesOf\n{F}-spec 𝓤 H 𝓜 𝓖 𝓡 =\n    entered 𝓤 H (tripleOf 𝓤 H (𝓖 .A) {F}.signature ({F}.spec 𝓤 H (𝓖 .A) (𝓜 .mem) (𝓡 .run)))\n    (tables 𝓤 H 𝓜 𝓡 code.env .C) (tables 𝓤 H 𝓜 𝓡 code.env .Λ) {key(fn)} code.function (code.unfolded 𝓤 H 𝓜 𝓡)\n    (meets 𝓤 H (𝓖 .A) (givenOf 𝓤 H 𝓜 𝓖) (𝓜 .mem) (𝓡 .run) (tablesOf 𝓤 H 𝓜 (tables 𝓤 H 𝓜 𝓡 code.env))\n    {cite("Callee", callee)}\n    {cite("After", after)})')
+    cite = lambda c, d, name: f'(cited 𝓤 H ({c} 𝓤 H (𝓖 .A) (𝓜 .mem) (𝓡 .run)) 𝓜 𝓡 code.env {key(name)} {d}-def.routine {calls(name)} ({d}-thm.met 𝓤 H 𝓜 𝓖 𝓡))'
+    w(f'pub {F}-spec : {{M : Type 1}} → stated.statement M\nunfolding code.routine tablesOf\n{F}-spec 𝓤 H 𝓜 𝓖 𝓡 =\n    entered 𝓤 H (tripleOf 𝓤 H (𝓖 .A) {F}.signature ({F}.spec 𝓤 H (𝓖 .A) (𝓜 .mem) (𝓡 .run)))\n    (tables 𝓤 H 𝓜 𝓡 code.env .C) (tables 𝓤 H 𝓜 𝓡 code.env .Λ) {key(fn)} code.function (code.unfolded 𝓤 H 𝓜 𝓡)\n    (meets 𝓤 H (𝓖 .A) (givenOf 𝓤 H 𝓜 𝓖) (𝓜 .mem) (𝓡 .run) (tablesOf 𝓤 H 𝓜 (tables 𝓤 H 𝓜 𝓡 code.env))\n    {cite("Callee", G, callee)}\n    {cite("After", K, after)})')
     return '\n'.join(o) + '\n'
 
 
