@@ -11,7 +11,7 @@ use report::Report;
 use run::run::run;
 
 // Where a run leaves the caller: behind its last accepted call.
-fn cursor_of(report: Report) -> Cursor
+pub fn cursor_of(report: Report) -> Cursor
     ensures { λ r. ⌜ r ≡ cursorOf report ⌝ }
 {
     Cursor {

@@ -1,5 +1,5 @@
 -- `moved::decode_moved` meets its contract: a walk of its MIR. The struct is made in a local and lent to `decode_inter_mb_at` for a lifetime of the call; the lifetime is ended, and the struct is read as the callee left it.
--- A `&mut` slice is given to the callee for good, at its own lifetime, share and name. What a `&` slice owns is had twice. Written by tools/walks/lent_cursor.py, which counts the positions.
+-- A `&mut` slice is given to the callee for good, at its own lifetime, share and name. What a `&` slice owns is had twice. Written by tools/walks/thin_caller.py, which counts the positions.
 -- Assumes nothing.
 use mathlib.Core.Path.{_≡_, refl, sym, ap, _∙_}
 use Prim.Native.Nat.{ℕ, _<_, _^_}
@@ -43,11 +43,11 @@ use denote.Triple.Clauses.{ensured, lasts}
 use denote.Triple.Table.{entered, cited}
 use denote.Triple.Walked.{says, needs, Stays, stay-ref, stay-none, stay-none-slice, gave-slice, walkOf, goes-none, goes-ref, goes-none-slice, goes-gave-slice, Walks, ends-at, walked, walk-meets}
 use denote.Exit.{yes}
+use denote.Enum.Laws as EL
 use base.Fml.{flent}
 use types.Kit.{use3}
 use types.Tokens.{lft-new, lft-end}
 use denote.Lend.{LentRef}
-use denote.Enum.Laws as EL
 use Rattle.moved.proofs.Lent.{mach, lends, comes-back}
 use Rattle.outcome.specs.Decode.{decoded}
 use Rattle.outcome.specs.Entry.{stateOf, left, cursorBy}

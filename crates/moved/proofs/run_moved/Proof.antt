@@ -1,5 +1,5 @@
 -- `moved::run_moved` meets its contract: a walk of its MIR. The struct is made in a local and lent to `run_at` for a lifetime of the call; the lifetime is ended, and the struct is read as the callee left it.
--- A `&mut` slice is given to the callee for good, at its own lifetime, share and name. What a `&` slice owns is had twice. Written by tools/walks/lent_cursor.py, which counts the positions.
+-- A `&mut` slice is given to the callee for good, at its own lifetime, share and name. What a `&` slice owns is had twice. Written by tools/walks/thin_caller.py, which counts the positions.
 -- Assumes nothing.
 use mathlib.Core.Path.{_≡_, refl, sym, ap, _∙_}
 use Prim.Native.Nat.{ℕ, _<_, _^_}

@@ -1,4 +1,4 @@
--- `thin::run_at` meets its contract: a walk of its MIR. The borrow of the struct is opened and its fields are read, `run` is called on the slices, the values and the fields, `cursor_of` on the fields and the answer, its fields are stored, and the borrow is closed there.
+-- `thin::run_at` meets its contract: a walk of its MIR. The borrow of the struct is opened and its fields are read, `run` is called on the slices, the values and the fields, `cursor_of` on the answer, its fields are stored, and the borrow is closed there.
 -- A `&mut` slice is given to the callee for good, at its own lifetime, share and name. What a `&` slice owns is had twice. Written by tools/walks/thin_entry.py, which counts the positions.
 -- Assumes nothing.
 use mathlib.Core.Path.{_≡_, refl, sym, ap, _∙_}

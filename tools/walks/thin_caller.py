@@ -1,7 +1,7 @@
 #!/usr/bin/env python3
 """Writes the walk of a function that lends a struct of its own to a thin entry, and counts the positions in it.
 
-    lent_cursor.py SHAPE.json PROOF.antt
+    thin_caller.py SHAPE.json PROOF.antt
 
     fn F(s0: &mut [u8], .., v0: V, ..) -> R {
         let mut p = P { f: v, .. };
@@ -12,34 +12,18 @@
 import json
 import sys
 
-from thin_entry import USES, WIDTH, Walk, comp, dash, items, nested, tuple_of
+from thin_entry import Shape, Walk, comp, contract, dash, items, nested, passed, tuple_of
 
-MORE = '''use base.Fml.{flent}
-use types.Kit.{use3}
-use types.Tokens.{lft-new, lft-end}
-use denote.Lend.{LentRef}'''
+MORE = ['base.Fml.{flent}', 'types.Kit.{use3}', 'types.Tokens.{lft-new, lft-end}', 'denote.Lend.{LentRef}']
 
 
 def generate(s):
-    (fn, crate, *modules), (callee, *_), (place, place_crate) = s['fn'], s['callee'], s['place']
-    slices, fields, values, answer, result = s['slices'], s['fields'], s['values'], s['answer'], s['result']
-    laws, of_enum = {'enum': ('EL', ' tt'), 'struct': ('LL', '')}[s['kind']]
-    stands = {s[f][0]: s[f][1:] for f in ('fn', 'callee')}
-    k, nv = len(slices), len(values)
-    muts = [i for i in range(k) if slices[i][1] == 'mut']
-    shared = [i for i in range(k) if slices[i][1] == '&']
+    S = Shape(s, 'fn', 'callee')
+    fn, callee, (place, place_crate) = S.fn, s['callee'][0], s['place']
+    fields, values, answer, result, arg = s['fields'], S.values, s['answer'], s['result'], s['args']
+    k, nv, muts, shared, own = S.k, S.nv, S.muts, S.shared, S.own
+    key, elem, lists, row, vtype, own_of = S.key, S.elem, S.lists, S.row, S.vtype, S.own_of
     F, G = dash(fn), 'callee'
-    root = '.'.join([f'Rattle.{crate}.proofs', *modules])
-    home = lambda of, what: f'Rattle.{of}.{what}' if of == crate else f'Rattle.{of}.{what}'
-    proofs = lambda name: '.'.join([home(stands[name][0], 'proofs'), *stands[name][1:], name])
-    key = lambda name: f'#{stands[name][0]}·{dash(name)}'
-    calls = lambda name: 'code.calls-' + '·'.join(dash(part) for part in [*stands[name], name])
-    elem = lambda i: slices[i][2]
-    lists = lambda i: 'List ℤ' if elem(i) == 'i32' else 'List ℕ'
-    is_struct = lambda j: values[j][1] not in WIDTH
-    alias = lambda j: f'V{j}'
-    row = lambda j: f'{alias(j)}.the-row' if is_struct(j) else values[j][1]
-    vtype = lambda j: values[j][1] if is_struct(j) else 'ℕ'
     # the value that each field of the struct is made of
     of = {f: [v[0] for v in values].index(f) for f, _ in fields}
     # the locals
@@ -54,43 +38,26 @@ def generate(s):
 
     o = []
     w = o.append
-    w(f'-- `{"::".join([crate, *modules, fn])}` meets its contract: a walk of its MIR. The struct is made in a local and lent to `{callee}` for a lifetime of the call; the lifetime is ended, and the struct is read as the callee left it.')
-    w('-- A `&mut` slice is given to the callee for good, at its own lifetime, share and name. What a `&` slice owns is had twice. Written by tools/walks/lent_cursor.py, which counts the positions.')
+    w(f'-- `{S.path}` meets its contract: a walk of its MIR. The struct is made in a local and lent to `{callee}` for a lifetime of the call; the lifetime is ended, and the struct is read as the callee left it.')
+    w('-- A `&mut` slice is given to the callee for good, at its own lifetime, share and name. What a `&` slice owns is had twice. Written by tools/walks/thin_caller.py, which counts the positions.')
     w('-- Assumes nothing.')
-    w(USES)
-    w(MORE)
-    if laws == 'EL':
-        w('use denote.Enum.Laws as EL')
-    for u in s['uses']:
-        w('use ' + u)
-    for (name, at), as_name in (((place, place_crate), 'T'), (answer, 'E'), (result[:2], 'R')):
-        w(f'use {home(at, "specs")}.declared.{name}.{{{name}}}')
-        w(f'use {home(at, "proofs")}.{name} as {as_name}\nuse {home(at, "proofs")}.{name}.Laws as {as_name}′')
-    for j in range(nv):
-        if is_struct(j):
-            w(f'use {values[j][2]}.{{{values[j][1]}}}\nuse {values[j][3]} as {alias(j)}\nuse {values[j][3]}.Laws as {alias(j)}′')
-    w(f'use {proofs(callee)} as {G}\nuse {proofs(callee)}.Symbol as {G}-def\nuse {proofs(callee)}.Symbol.{{name as {key(callee)}}}\nuse {proofs(callee)}.Met as {G}-thm')
-    w(f'use {root}.{fn}.Key.{{name as {key(fn)}}}\nuse {root}.{fn} as {F}\nuse {root}.{fn}.Statement as stated\nuse {root}.{fn}.Code as code\n')
-
-    stays = [(f'stay-none-slice ({i} ∷ []) tt (plain (λ _. {elem(i)})) yes' if i in shared else f'gave-slice ({i} ∷ []) tt (plain (λ _. {elem(i)}))') for i in range(k)]
-    stays += [f'stay-none (λ _. {row(j)}) yes' for j in range(nv)]
+    w(S.opening(MORE + s['uses'], [(place, place_crate, 'T'), (*answer, 'E'), (*result[:2], 'R')], [(callee, G)]))
+    stays = [S.stay(i) for i in range(k)] + [f'stay-none (λ _. {row(j)}) yes' for j in range(nv)]
     w(f'abbrev stayed : Stays ({F}.ended .signature .params) ({F}.ended .kept)\nstayed = {tuple_of(stays)}\n')
     w('-- the contract that the proof cites')
-    w(f'abbrev Callee : {{M : Type 1}} (𝓤 : URA M) (H : Heap 𝓤) (A : Atoms 𝓤) (mem : Memory → SProp 𝓤) (run : Routine → Fun 𝓤) → Contract 𝓤\nCallee 𝓤 H A mem run = tripleOf 𝓤 H A {G}.signature ({G}.spec 𝓤 H A mem run)\n')
+    w(contract('Callee', G))
 
     ks = ' '.join(f'κ{i}' for i in range(k))
     qs = ' '.join(f'q{i}' for i in range(k))
     xs = ' '.join(f'(x{i} : RefT ({lists(i)}))' for i in range(k))
     ws = ' '.join(f'(w{j} : {vtype(j)})' for j in range(nv))
     w(f'module _ {{M : Type 1}} (𝓤 : URA M) (H : Heap 𝓤) (A : Atoms 𝓤) (W : Given 𝓤 H A) (at-mem : Memory → SProp 𝓤) (run : Routine → Fun 𝓤) ({ks} : Lft) ({qs} : Share) {xs} {ws} where')
-    own = [('ShrSlice' if i in shared else 'MutSlice') + f' (named {i}) κ{i} {elem(i)}' for i in range(k)]
     w(f'  abbrev Arg : Type 0\n  Arg = {nested([f"RefT ({lists(i)})" for i in range(k)] + [vtype(j) for j in range(nv)])}\n')
     w(f'  abbrev a : Arg\n  a = {tuple_of([f"x{i}" for i in range(k)] + [f"w{j}" for j in range(nv)])}\n')
     w('  -- the machine value of a slice, and of each value')
     w('  abbrev v : {X : Type 0} → RefT (List X) → Val\n  v x = sliceVal (x .ptr) (length (x .now))\n')
     for j in range(nv):
-        m = f'LL.tuple-val {alias(j)}.the-type {alias(j)}′.the-laws ({alias(j)}.the-type .to w{j})' if is_struct(j) else f'vint {WIDTH[values[j][1]][0]} w{j}'
-        w(f'  abbrev vw{j} : Val\n  vw{j} = {m}\n')
+        w(f'  abbrev vw{j} : Val\n  vw{j} = {S.machine(j)}\n')
     w(f'  abbrev ValsT : Type 0\n  ValsT = {nested(["List Val"] * (k + nv))}\n')
     w(f'  abbrev vals : ValsT\n  vals = {tuple_of([f"v x{i} ∷ []" for i in range(k)] + [f"vw{j} ∷ []" for j in range(nv)])}\n')
     κs, qqs = tuple_of([f'κ{i}' for i in range(k)]), tuple_of([f'q{i}' for i in range(k)])
@@ -103,7 +70,6 @@ def generate(s):
     names_h = ' '.join(f'isw{of[f]}' for f, _ in fields)
 
     # the call
-    arg = s['args']
     w(f'  abbrev CArg : Type 0\n  CArg = {nested([f"RefT ({lists(i)})" for i in range(k)] + [f"RefT {place}"] + [vtype(j) for j in arg])}\n')
     ref = 'record { ptr = (l, 0); name = γ; now = h }'
     w(f'  -- the struct is lent at l, under the name γ, for the lifetime ν\n  abbrev ca : ℕ → GName → CArg\n  ca l γ = {tuple_of([f"x{i}" for i in range(k)] + [ref] + [f"w{j}" for j in arg])}\n')
@@ -123,13 +89,11 @@ def generate(s):
 
     # the exit
     fin = lambda i: f'‵ (finally {elem(i)} (x{i} .name) (zs {comp(i)}))'
-    own_of = lambda i: f'‵ ({own[i]} .own x{i} (v x{i} ∷ []))'
     left = [f'({toks})'] + [(own_of(i) if i in shared else fin(i)) for i in range(k)]
     lens = ''.join(f'length (zs {comp(i)}) ≡ length (x{i} .now) → ' for i in muts)
     isw = ''.join(f'Is {row(j)} w{j} (vw{j} ∷ []) → ' for j in range(nv))
     names_w = ' '.join(f'isw{j}' for j in range(nv))
     ls = ' '.join(f'l{i}' for i in muts)
-    makes = lambda j: f'(LL.makes {alias(j)}.the-type {alias(j)}′.the-plain 𝓤 H A)' if is_struct(j) else f'(uint-makes 𝓤 H A W {WIDTH[values[j][1]][0]})'
     w(f'  exits : (m : {answer[0]}) (u : Val) (zs : Lasts) → Said m zs → {lens}{isw}Is R.the-row (res m zs) (value u zs ∷ []) → ent 𝓤 (⋆ 𝓤 H A ({items(left)})) (Post (value u zs))')
     w(f'  exits m u zs e {ls} {names_w} is =')
     w(f'      qed W ({items(left)}) ∵')
@@ -142,7 +106,7 @@ def generate(s):
     x.step('nothing', 0, 'V')
     cur = 'V'
     for j in reversed(range(nv)):
-        x.add(f'owned ! {row(j)} (Is {row(j)}) {makes(j)} w{j} _ isw{j} $', f'w{j}')
+        x.add(f'owned ! {row(j)} (Is {row(j)}) {S.makes(j)} w{j} _ isw{j} $', f'w{j}')
         x.step('fjoin', 2, f'V{j}')
         cur = f'V{j}'
     for i in reversed(range(k)):
@@ -174,15 +138,8 @@ def generate(s):
         law = 'shr-slice-lawful' if i in shared else 'mut-slice-lawful'
         x.say(f'pass1 ! (init ! {L(i + 1)} refl ({law} 𝓤 H A W (named {i}) κ{i} {elem(i)} .typed x{i} (v x{i} ∷ []) is{i} .0)) $')
     for j in range(nv):
-        t = f'LL.lawful {alias(j)}.the-type {alias(j)}′.the-laws 𝓤 H A W .typed w{j} _ isw{j} .0' if is_struct(j) else f'tt, record {{ fits = isw{j} .1 }}'
-        x.say(f'pass1 ! (init ! {L(loc_v[j])} refl ({t})) $')
+        x.say(f'pass1 ! (init ! {L(loc_v[j])} refl ({S.typed(j)})) $')
     x.say('pass0 ! $')
-
-    def passed(ps):
-        t = '(no-more !)'
-        for p in reversed(ps):
-            t = f'(and-then ! (load ! (from ! (stop !)) (look ! {p} refl)) {t})'
-        return t
 
     x.line('the struct is made, and each slice is lent on')
     x.say(f'assigns ! (agg ! {passed([L(loc_v[of[f]]) for f, _ in fields])}) (from ! (stop !)) (init ! {L(loc_p)} refl (LL.lawful T.the-type T′.the-laws 𝓤 H A W .typed h _ (made {names_h}) .0)) $')
@@ -297,7 +254,7 @@ def generate(s):
     x.move('res')
     x.line(x.shown())
     x.under('peeks ! E.the-row (Is E.the-row) (shows 𝓤 H A E.the-row) m (u ∷ []) (λ is.')
-    x.say(f'land ! (from ! (stop !)) (init ! {L(loc_a)} refl ({laws}.lawful E.the-type E′.the-laws 𝓤 H A W{of_enum} .typed m _ is .0)) $')
+    x.say(f'land ! (from ! (stop !)) (init ! {L(loc_a)} refl ({S.laws}.lawful E.the-type E′.the-laws 𝓤 H A W{S.of_enum} .typed m _ is .0)) $')
     x.line()
     x.say(f'assigns ! (of-opd ! (load ! (from ! (stop !)) (look ! {L(loc_p)} refl))) (from ! (stop !)) (init ! {L(loc_n)} refl (LL.lawful T.the-type T′.the-laws 𝓤 H A W .typed {nn} _ is′ .0)) $')
     x.line()
@@ -325,21 +282,17 @@ def generate(s):
     # the contract
     w('module _ {M : Type 1} (𝓤 : URA M) (H : Heap 𝓤) (A : Atoms 𝓤) (W : Given 𝓤 H A) (mem : Memory → SProp 𝓤) (run : Routine → Fun 𝓤) where')
     w(f'  walks : (C : Calls 𝓤 H) (Λ : Loops 𝓤 H) → FmC 𝓤 H (W .laws) C → Triple 𝓤 (C {key(callee)}) (Callee 𝓤 H A mem run) → Walks 𝓤 H A {F}.ended stayed (WpFn 𝓤 H C Λ code.function) ({F}.clauses 𝓤 H A mem run)')
-    val = lambda j: f'LL.vals {alias(j)}.the-type {alias(j)}′.the-laws' if is_struct(j) else f'uint-vals {WIDTH[values[j][1]][0]}'
-    tell = lambda j: f'LL.tells {alias(j)}.the-type {alias(j)}′.the-laws' if is_struct(j) else f'uint-tells {WIDTH[values[j][1]][0]}'
-    tells = [('shr' if i in shared else 'mut') + f'-slice-tells (named {i}) (κs {comp(i)}) {elem(i)}' for i in range(k)] + [tell(j) for j in range(nv)]
-    w(f'  walks C Λ fm known = walked 𝓤 H A {F}.ended stayed ({F}.clauses 𝓤 H A mem run) (WpFn 𝓤 H C Λ code.function) (λ κs. {tuple_of(["slice-vals"] * k + [val(j) for j in range(nv)])}) (λ κs. {tuple_of(tells)})')
+    tells = [S.slice_tells(i) for i in range(k)] + [S.tells(j) for j in range(nv)]
+    w(f'  walks C Λ fm known = walked 𝓤 H A {F}.ended stayed ({F}.clauses 𝓤 H A mem run) (WpFn 𝓤 H C Λ code.function) (λ κs. {tuple_of(["slice-vals"] * k + [S.vals(j) for j in range(nv)])}) (λ κs. {tuple_of(tells)})')
     kk = ' '.join(f'(κs {comp(i)})' for i in range(k))
     qq = ' '.join(f'(qs {comp(i)})' for i in range(k))
     ax = ' '.join(f'(a {comp(i)})' for i in range(k + nv))
     are = ' '.join(f'(are {comp(i)})' for i in range(k + nv))
     w(f'      (λ κs qs bounds a g are. via 𝓤 _ (fst∗ 𝓤 _ (emp 𝓤)) (walk 𝓤 H A W mem run {kk} {qq} {ax} C Λ fm known {are}))\n')
     w(f'meets : {{M : Type 1}} (𝓤 : URA M) (H : Heap 𝓤) (A : Atoms 𝓤) → Given 𝓤 H A → (mem : Memory → SProp 𝓤) (run : Routine → Fun 𝓤) (𝓣 : Tables 𝓤 H) → Triple 𝓤 (𝓣 .C {key(callee)}) (Callee 𝓤 H A mem run)\n    → Meets 𝓤 H A {F}.signature (WpFn 𝓤 H (𝓣 .C) (𝓣 .Λ) code.function) ({F}.spec 𝓤 H A mem run)')
-    goes = [(f'goes-none-slice 𝓤 H A W {k} ({i} ∷ []) tt (plain (λ _. {elem(i)})) yes' if i in shared else f'goes-gave-slice 𝓤 H A W {k} {i} tt (plain (λ _. {elem(i)}))') for i in range(k)]
-    goes += [f'goes-none 𝓤 H A W {k} (λ _. {row(j)}) yes (λ κs x f. refl)' for j in range(nv)]
+    goes = [S.goes(k, i) for i in range(k)] + [f'goes-none 𝓤 H A W {k} (λ _. {row(j)}) yes (λ κs x f. refl)' for j in range(nv)]
     w(f'meets 𝓤 H A W mem run 𝓣 known =\n    walk-meets 𝓤 H A {F}.ended stayed W {tuple_of(goes)} ({F}.clauses 𝓤 H A mem run)\n    (WpFn 𝓤 H (𝓣 .C) (𝓣 .Λ) code.function) (WpFn-mono 𝓤 H (W .laws) 𝓣 code.function) (walks 𝓤 H A W mem run (𝓣 .C) (𝓣 .Λ) (fmOf 𝓤 H (W .laws) 𝓣) known)\n')
-    cite = f'(cited 𝓤 H (Callee 𝓤 H (𝓖 .A) (𝓜 .mem) (𝓡 .run)) 𝓜 𝓡 code.env {key(callee)} {G}-def.routine {calls(callee)} ({G}-thm.met 𝓤 H 𝓜 𝓖 𝓡))'
-    w(f'pub {F}-spec : {{M : Type 1}} → stated.statement M\nunfolding code.routine tablesOf\n{F}-spec 𝓤 H 𝓜 𝓖 𝓡 =\n    entered 𝓤 H (tripleOf 𝓤 H (𝓖 .A) {F}.signature ({F}.spec 𝓤 H (𝓖 .A) (𝓜 .mem) (𝓡 .run)))\n    (tables 𝓤 H 𝓜 𝓡 code.env .C) (tables 𝓤 H 𝓜 𝓡 code.env .Λ) {key(fn)} code.function (code.unfolded 𝓤 H 𝓜 𝓡)\n    (meets 𝓤 H (𝓖 .A) (givenOf 𝓤 H 𝓜 𝓖) (𝓜 .mem) (𝓡 .run) (tablesOf 𝓤 H 𝓜 (tables 𝓤 H 𝓜 𝓡 code.env))\n    {cite})')
+    w(S.closing(S.cite('Callee', G, callee)))
     return '\n'.join(o) + '\n'
 
 
