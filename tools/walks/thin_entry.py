@@ -5,10 +5,10 @@
 
 The entry moves on a small struct that its caller lends, and leaves the work to covered functions:
 
-    fn F(s0: &mut [u8], .., p: &mut P, v0: V, ..) -> E {
+    fn F(s0: &mut [u8], .., p: &mut P, v0: V, ..) -> A {
         let f = p.f; ..
         let a = G(s0, .., the values and the fields in some order);
-        let n = K(f, .., a);
+        let n = K(the fields and a, or a alone);
         p.f = n.f; ..
         a
     }
@@ -123,7 +123,6 @@ use denote.Signature.{plain}
 use denote.Steps.{only, opens, closes, owned, peeks, heard, nothing}
 use denote.Struct.Steps.{spelt}
 use denote.Struct.Laws as LL
-use denote.Enum.Laws as EL
 use denote.Triple.Entry.{onEntry}
 use denote.Triple.Spec.{Meets, tripleOf}
 use denote.Triple.Statement.{Contract, Triple}
@@ -134,26 +133,129 @@ use denote.Triple.Walked.{says, needs, Stays, stay-ref, stay-none, stay-none-sli
 use denote.Exit.{yes}'''
 
 
+class Shape:
+    """What SHAPE.json says of a function: the slices, then the values, and where functions and types stand."""
+
+    def __init__(self, s, *functions):
+        # each function's crate, and the modules that it stands in there
+        self.stands = {s[f][0]: s[f][1:] for f in functions}
+        self.fn, self.crate, *modules = s['fn']
+        self.path = '::'.join([self.crate, *modules, self.fn])
+        self.root = '.'.join([f'Rattle.{self.crate}.proofs', *modules, self.fn])
+        self.slices, self.values = s['slices'], s['values']
+        self.k, self.nv = len(self.slices), len(self.values)
+        self.muts = [i for i in range(self.k) if self.slices[i][1] == 'mut']
+        self.shared = [i for i in range(self.k) if self.slices[i][1] == '&']
+        self.own = [('ShrSlice' if i in self.shared else 'MutSlice') + f' (named {i}) κ{i} {self.elem(i)}' for i in range(self.k)]
+        # the answer's type, an enum or a struct, by whose laws it is typed and had for nothing
+        self.laws, self.of_enum = {'enum': ('EL', ' tt'), 'struct': ('LL', '')}[s['kind']]
+
+    def home(self, of, what):
+        return f'Rattle.{of}.{what}' if of == self.crate else f'Rattle.{of}.{what}'
+
+    def proofs(self, name):
+        return '.'.join([self.home(self.stands[name][0], 'proofs'), *self.stands[name][1:], name])
+
+    def key(self, name):
+        return f'#{self.stands[name][0]}·{dash(name)}'
+
+    def calls(self, name):
+        return 'code.calls-' + '·'.join(dash(part) for part in [*self.stands[name], name])
+
+    # of a slice
+    def elem(self, i):
+        return self.slices[i][2]
+
+    def lists(self, i):
+        return 'List ℤ' if self.elem(i) == 'i32' else 'List ℕ'
+
+    def own_of(self, i):
+        return f'‵ ({self.own[i]} .own x{i} (v x{i} ∷ []))'
+
+    def stay(self, i):
+        return f'stay-none-slice ({i} ∷ []) tt (plain (λ _. {self.elem(i)})) yes' if i in self.shared else f'gave-slice ({i} ∷ []) tt (plain (λ _. {self.elem(i)}))'
+
+    def goes(self, lifetimes, i):
+        return f'goes-none-slice 𝓤 H A W {lifetimes} ({i} ∷ []) tt (plain (λ _. {self.elem(i)})) yes' if i in self.shared else f'goes-gave-slice 𝓤 H A W {lifetimes} {i} tt (plain (λ _. {self.elem(i)}))'
+
+    def slice_tells(self, i):
+        return ('shr' if i in self.shared else 'mut') + f'-slice-tells (named {i}) (κs {comp(i)}) {self.elem(i)}'
+
+    # of a value
+    def is_struct(self, j):
+        return self.values[j][1] not in WIDTH
+
+    def row(self, j):
+        return f'V{j}.the-row' if self.is_struct(j) else self.values[j][1]
+
+    def vtype(self, j):
+        return self.values[j][1] if self.is_struct(j) else 'ℕ'
+
+    def by(self, j, struct, number):
+        """A law of the value's type."""
+        return struct.format(t=f'V{j}.the-type', l=f'V{j}′') if self.is_struct(j) else number.format(w=WIDTH[self.values[j][1]][0])
+
+    def machine(self, j):
+        return self.by(j, 'LL.tuple-val {t} {l}.the-laws ({t} .to', 'vint {w}') + (f' w{j})' if self.is_struct(j) else f' w{j}')
+
+    def makes(self, j):
+        return self.by(j, '(LL.makes {t} {l}.the-plain 𝓤 H A)', '(uint-makes 𝓤 H A W {w})')
+
+    def vals(self, j):
+        return self.by(j, 'LL.vals {t} {l}.the-laws', 'uint-vals {w}')
+
+    def tells(self, j):
+        return self.by(j, 'LL.tells {t} {l}.the-laws', 'uint-tells {w}')
+
+    def typed(self, j):
+        return self.by(j, 'LL.lawful {t} {l}.the-laws 𝓤 H A W .typed', 'tt, record {{ fits =') + (f' w{j} _ isw{j} .0' if self.is_struct(j) else f' isw{j} .1 }}')
+
+    # texts
+    def opening(self, uses, types, functions):
+        """The `use` lines: of declared types, of the values' types, of the functions called, of the function itself."""
+        out = [USES] + (['use denote.Enum.Laws as EL'] if self.laws == 'EL' else []) + ['use ' + u for u in uses]
+        for name, of, as_name in types:
+            out.append(f'use {self.home(of, "specs")}.declared.{name}.{{{name}}}')
+            out.append(f'use {self.home(of, "proofs")}.{name} as {as_name}\nuse {self.home(of, "proofs")}.{name}.Laws as {as_name}′')
+        for j in range(self.nv):
+            if self.is_struct(j):
+                out.append(f'use {self.values[j][2]}.{{{self.values[j][1]}}}\nuse {self.values[j][3]} as V{j}\nuse {self.values[j][3]}.Laws as V{j}′')
+        for name, d in functions:
+            out.append(f'use {self.proofs(name)} as {d}\nuse {self.proofs(name)}.Symbol as {d}-def\nuse {self.proofs(name)}.Symbol.{{name as {self.key(name)}}}\nuse {self.proofs(name)}.Met as {d}-thm')
+        out.append(f'use {self.root}.Key.{{name as {self.key(self.fn)}}}\nuse {self.root} as {dash(self.fn)}\nuse {self.root}.Statement as stated\nuse {self.root}.Code as code\n')
+        return '\n'.join(out)
+
+    def cite(self, contract, d, name):
+        return f'(cited 𝓤 H ({contract} 𝓤 H (𝓖 .A) (𝓜 .mem) (𝓡 .run)) 𝓜 𝓡 code.env {self.key(name)} {d}-def.routine {self.calls(name)} ({d}-thm.met 𝓤 H 𝓜 𝓖 𝓡))'
+
+    def closing(self, *cited):
+        """The theorem, from `meets`."""
+        F = dash(self.fn)
+        return f'pub {F}-spec : {{M : Type 1}} → stated.statement M\nunfolding code.routine tablesOf\n{F}-spec 𝓤 H 𝓜 𝓖 𝓡 =\n    entered 𝓤 H (tripleOf 𝓤 H (𝓖 .A) {F}.signature ({F}.spec 𝓤 H (𝓖 .A) (𝓜 .mem) (𝓡 .run)))\n    (tables 𝓤 H 𝓜 𝓡 code.env .C) (tables 𝓤 H 𝓜 𝓡 code.env .Λ) {self.key(self.fn)} code.function (code.unfolded 𝓤 H 𝓜 𝓡)\n    (meets 𝓤 H (𝓖 .A) (givenOf 𝓤 H 𝓜 𝓖) (𝓜 .mem) (𝓡 .run) (tablesOf 𝓤 H 𝓜 (tables 𝓤 H 𝓜 𝓡 code.env))\n    ' + '\n    '.join(cited) + ')'
+
+
+def contract(name, d):
+    return f'abbrev {name} : {{M : Type 1}} (𝓤 : URA M) (H : Heap 𝓤) (A : Atoms 𝓤) (mem : Memory → SProp 𝓤) (run : Routine → Fun 𝓤) → Contract 𝓤\n{name} 𝓤 H A mem run = tripleOf 𝓤 H A {d}.signature ({d}.spec 𝓤 H A mem run)\n'
+
+
+def passed(places):
+    """The operands of a call or of a struct, each the whole of a local."""
+    t = '(no-more !)'
+    for p in reversed(places):
+        t = f'(and-then ! (load ! (from ! (stop !)) (look ! {p} refl)) {t})'
+    return t
+
+
 def generate(s):
-    crate, module, fn = s['crate'], s['module'], s['fn']
-    (callee, *_), (after, *_), (place, place_crate) = s['callee'], s['after'], s['place']
-    slices, fields, values, answer = s['slices'], s['fields'], s['values'], s['answer']
-    # the other functions' crates, and the modules that they stand in there
-    stands = {s[f][0]: s[f][1:] for f in ('callee', 'after')} | {fn: [crate, module]}
-    k, nv, nf = len(slices), len(values), len(fields)
-    muts = [i for i in range(k) if slices[i][1] == 'mut']
-    shared = [i for i in range(k) if slices[i][1] == '&']
-    F, G, K = dash(fn), dash(callee), dash(after)
-    root = f'Rattle.{crate}.proofs.{module}'
-    proofs = lambda name: '.'.join([f'Rattle.{stands[name][0]}.proofs', *stands[name][1:], name])
-    key = lambda name: f'#{stands[name][0]}·{dash(name)}'
-    calls = lambda name: 'code.calls-' + '·'.join(dash(part) for part in [*stands[name], name])
-    elem = lambda i: slices[i][2]
-    lists = lambda i: 'List ℤ' if elem(i) == 'i32' else 'List ℕ'
-    is_struct = lambda j: values[j][1] not in WIDTH
-    alias = lambda j: f'V{j}'
-    row = lambda j: f'{alias(j)}.the-row' if is_struct(j) else values[j][1]
-    vtype = lambda j: values[j][1] if is_struct(j) else 'ℕ'
+    S = Shape(s, 'fn', 'callee', 'after')
+    fn, callee, after, (place, place_crate) = S.fn, s['callee'][0], s['after'][0], s['place']
+    fields, values, answer = s['fields'], S.values, s['answer']
+    # the fields that the second call takes before the answer
+    kept = [j for j, (f, _) in enumerate(fields) if f in s['keeps']]
+    k, nv, nf, muts, shared, own = S.k, S.nv, len(fields), S.muts, S.shared, S.own
+    key, elem, lists, is_struct, row, vtype, makes, own_of = S.key, S.elem, S.lists, S.is_struct, S.row, S.vtype, S.makes, S.own_of
+    # the names under which the proof has the three functions; a callee's own name may be one of the walk's
+    F, G, K = dash(fn), 'callee', 'after'
     requires = s.get('requires')
     # the locals
     loc_p = k + 1
@@ -167,44 +269,29 @@ def generate(s):
 
     o = []
     w = o.append
-    w(f'-- `{crate}::{module}::{fn}` meets its contract: a walk of its MIR. The borrow of the struct is opened and its fields are read, `{callee}` is called on the slices, the values and the fields, `{after}` on the fields and the answer, its fields are stored, and the borrow is closed there.')
+    w(f'-- `{S.path}` meets its contract: a walk of its MIR. The borrow of the struct is opened and its fields are read, `{callee}` is called on the slices, the values and the fields, `{after}` on the {"fields and the answer" if kept else "answer"}, its fields are stored, and the borrow is closed there.')
     w('-- A `&mut` slice is given to the callee for good, at its own lifetime, share and name. What a `&` slice owns is had twice. Written by tools/walks/thin_entry.py, which counts the positions.')
     w('-- Assumes nothing.')
-    w(USES)
-    for u in s['uses']:
-        w('use ' + u)
-    for (name, home), as_name in (((place, place_crate), 'T'), (answer, 'E')):
-        w(f'use Rattle.{home}.specs.declared.{name}.{{{name}}}')
-        w(f'use Rattle.{home}.proofs.{name} as {as_name}\nuse Rattle.{home}.proofs.{name}.Laws as {as_name}′')
-    for j in range(nv):
-        if is_struct(j):
-            w(f'use {values[j][2]}.{{{values[j][1]}}}\nuse {values[j][3]} as {alias(j)}\nuse {values[j][3]}.Laws as {alias(j)}′')
-    for name in (callee, after):
-        d = dash(name)
-        w(f'use {proofs(name)} as {d}\nuse {proofs(name)}.Symbol as {d}-def\nuse {proofs(name)}.Symbol.{{name as {key(name)}}}\nuse {proofs(name)}.Met as {d}-thm')
-    w(f'use {root}.{fn}.Key.{{name as {key(fn)}}}\nuse {root}.{fn} as {F}\nuse {root}.{fn}.Statement as stated\nuse {root}.{fn}.Code as code\n')
-
-    stays = [(f'stay-none-slice ({i} ∷ []) tt (plain (λ _. {elem(i)})) yes' if i in shared else f'gave-slice ({i} ∷ []) tt (plain (λ _. {elem(i)}))') for i in range(k)]
+    w(S.opening(s['uses'], [(place, place_crate, 'T'), (*answer, 'E')], [(callee, G), (after, K)]))
+    stays = [S.stay(i) for i in range(k)]
     stays += [f'stay-ref ({k} ∷ []) tt (plain (λ _. T.the-row))'] + [f'stay-none (λ _. {row(j)}) yes' for j in range(nv)]
     w(f'abbrev stayed : Stays ({F}.ended .signature .params) ({F}.ended .kept)\nstayed = {tuple_of(stays)}\n')
     w('-- the contracts that the proof cites')
-    for name, d in (('Callee', G), ('After', K)):
-        w(f'abbrev {name} : {{M : Type 1}} (𝓤 : URA M) (H : Heap 𝓤) (A : Atoms 𝓤) (mem : Memory → SProp 𝓤) (run : Routine → Fun 𝓤) → Contract 𝓤\n{name} 𝓤 H A mem run = tripleOf 𝓤 H A {d}.signature ({d}.spec 𝓤 H A mem run)\n')
+    w(contract('Callee', G))
+    w(contract('After', K))
 
     ks = ' '.join(f'κ{i}' for i in range(k))
     qs = ' '.join(f'q{i}' for i in range(k))
     xs = ' '.join(f'(x{i} : RefT ({lists(i)}))' for i in range(k))
     ws = ' '.join(f'(w{j} : {vtype(j)})' for j in range(nv))
     w(f'module _ {{M : Type 1}} (𝓤 : URA M) (H : Heap 𝓤) (A : Atoms 𝓤) (W : Given 𝓤 H A) (at-mem : Memory → SProp 𝓤) (run : Routine → Fun 𝓤) ({ks} κ : Lft) ({qs} q : Share) {xs} (b o : ℕ) (γ : GName) (h : {place}) {ws} where')
-    own = [('ShrSlice' if i in shared else 'MutSlice') + f' (named {i}) κ{i} {elem(i)}' for i in range(k)]
     w(f'  abbrev Arg : Type 0\n  Arg = {nested([f"RefT ({lists(i)})" for i in range(k)] + [f"RefT {place}"] + [vtype(j) for j in range(nv)])}\n')
     ref = 'record { ptr = (b, o); name = γ; now = h }'
     w(f'  abbrev a : Arg\n  a = {tuple_of([f"x{i}" for i in range(k)] + [ref] + [f"w{j}" for j in range(nv)])}\n')
     w('  -- the machine value of a slice, of each value, and of the struct')
     w('  abbrev v : {X : Type 0} → RefT (List X) → Val\n  v x = sliceVal (x .ptr) (length (x .now))\n')
     for j in range(nv):
-        m = f'LL.tuple-val {alias(j)}.the-type {alias(j)}′.the-laws ({alias(j)}.the-type .to w{j})' if is_struct(j) else f'vint {WIDTH[values[j][1]][0]} w{j}'
-        w(f'  abbrev vw{j} : Val\n  vw{j} = {m}\n')
+        w(f'  abbrev vw{j} : Val\n  vw{j} = {S.machine(j)}\n')
     t = 'vnil'
     for f, ty in reversed(fields):
         t = f'vcons (vint {WIDTH[ty][0]} (p .{f})) ' + (t if t == 'vnil' else f'({t})')
@@ -240,26 +327,24 @@ def generate(s):
     w(f'  -- what the callee ensures\n  abbrev Said : {answer[0]} → Lasts → Type 0\n  Said m zs = {s["fact"]}\n')
 
     # the second
-    w(f'  -- the second call, on the fields and the answer m, whose machine value is u\n  abbrev AArg : Type 0\n  AArg = {nested(["ℕ"] * nf + [answer[0]])}\n')
-    w(f'  abbrev aa : {answer[0]} → AArg\n  aa m = {tuple_of([f"h .{f}" for f, _ in fields] + ["m"])}\n')
-    w(f'  abbrev AVals : Type 0\n  AVals = {nested(["List Val"] * (nf + 1))}\n')
-    w(f'  abbrev avals : Val → AVals\n  avals u = {tuple_of([f"vint {WIDTH[t][0]} (h .{f}) ∷ []" for f, t in fields] + ["u ∷ []"])}\n')
+    w(f'  -- the second call, on the answer m, whose machine value is u\n  abbrev AArg : Type 0\n  AArg = {nested(["ℕ"] * len(kept) + [answer[0]])}\n')
+    w(f'  abbrev aa : {answer[0]} → AArg\n  aa m = {tuple_of([f"h .{fields[j][0]}" for j in kept] + ["m"])}\n')
+    w(f'  abbrev AVals : Type 0\n  AVals = {nested(["List Val"] * (len(kept) + 1))}\n')
+    w(f'  abbrev avals : Val → AVals\n  avals u = {tuple_of([f"vint {WIDTH[fields[j][1]][0]} (h .{fields[j][0]}) ∷ []" for j in kept] + ["u ∷ []"])}\n')
     w(f'  abbrev aft : {answer[0]} → Val → After 𝓤 H A at-mem run .Ghost\n  aft m u = ((tt, tt, tt, aa m, avals u), tt)\n')
-    arows = items([t for _, t in fields] + ['E.the-row'])
+    arows = items([fields[j][1] for j in kept] + ['E.the-row'])
     apre = f'‵ ftrue ∷ ‵ (owns ({arows}) (aa m) (avals u)) ∷ []'
     w(f'  asked-after : (m : {answer[0]}) (u : Val) → ent 𝓤 (⋆ 𝓤 H A ({apre})) (After 𝓤 H A at-mem run .pre (aft m u))\n  asked-after m u = qed W ({apre}) ∵ join ! $ frame ! $ done !\n')
-    w(f'  abbrev ALasts : Type 0\n  ALasts = {nested(["Unit {0}"] * (nf + 1))}\n')
+    w(f'  abbrev ALasts : Type 0\n  ALasts = {nested(["Unit {0}"] * (len(kept) + 1))}\n')
     w(f'  abbrev Moved : {answer[0]} → {place} → Type 0\n  Moved m n = {s["moved"]}\n')
 
     # the exit
     fin = lambda i: f'‵ (finally {elem(i)} (x{i} .name) (zs {comp(i)}))'
-    own_of = lambda i: f'‵ ({own[i]} .own x{i} (v x{i} ∷ []))'
     left = ['‵ (fobs γ (T.the-row .coded .code n))', '‵ (fbor κ (Body (mem T.the-row) b o γ))', '‵ (flft κ q)', f'({toks})'] + [(own_of(i) if i in shared else fin(i)) for i in range(k)]
     lens = ''.join(f'length (zs {comp(i)}) ≡ length (x{i} .now) → ' for i in muts)
     isw = ''.join(f'Is {row(j)} w{j} (vw{j} ∷ []) → ' for j in range(nv))
     names_w = ' '.join(f'isw{j}' for j in range(nv))
     ls = ' '.join(f'l{i}' for i in muts)
-    makes = lambda j: f'(LL.makes {alias(j)}.the-type {alias(j)}′.the-plain 𝓤 H A)' if is_struct(j) else f'(uint-makes 𝓤 H A W {WIDTH[values[j][1]][0]})'
     w(f'  exits : (m : {answer[0]}) (u : Val) (zs : Lasts) (n : {place}) → Said m zs → Moved m n → {lens}{isw}Is E.the-row m (u ∷ []) → ent 𝓤 (⋆ 𝓤 H A ({items(left)})) (Post u)')
     w(f'  exits m u zs n e e′ {ls} {names_w} is =')
     w(f'      qed W ({items(left)}) ∵')
@@ -297,7 +382,7 @@ def generate(s):
         x.move(f'x{i}', cur)
         x.step('fjoin', 2, f'H{i}')
         cur = f'H{i}'
-    x.add('owned ! E.the-row (Is E.the-row) (EL.makes E.the-type E′.the-plain 𝓤 H A) m _ is $', 'r')
+    x.add(f'owned ! E.the-row (Is E.the-row) ({S.laws}.makes E.the-type E′.the-plain 𝓤 H A) m _ is $', 'r')
     x.move(cur, 'r')
     x.say('done !')
     w('      ' + x.text('      ') + '\n')
@@ -328,8 +413,7 @@ def generate(s):
         x.say(f'pass1 ! (init ! {L(i + 1)} refl ({law} 𝓤 H A W (named {i}) κ{i} {elem(i)} .typed x{i} (v x{i} ∷ []) is{i} .0)) $')
     x.say(f'pass1 ! (init ! {L(loc_p)} refl (tt, tt)) $')
     for j in range(nv):
-        t = f'LL.lawful {alias(j)}.the-type {alias(j)}′.the-laws 𝓤 H A W .typed w{j} _ isw{j} .0' if is_struct(j) else f'tt, record {{ fits = isw{j} .1 }}'
-        x.say(f'pass1 ! (init ! {L(loc_v[j])} refl ({t})) $')
+        x.say(f'pass1 ! (init ! {L(loc_v[j])} refl ({S.typed(j)})) $')
     x.say('pass0 ! $')
     x.line('what the parameters own, and the tokens, are taken apart, and the borrow is opened')
     cur = 'owns'
@@ -403,12 +487,6 @@ def generate(s):
     x.put(2, 'pre')
     x.line(x.shown())
 
-    def passed(ps):
-        t = '(no-more !)'
-        for p in reversed(ps):
-            t = f'(and-then ! (load ! (from ! (stop !)) (look ! {p} refl)) {t})'
-        return t
-
     passes = [L(i + 1) if i in shared else L(loc_lent[i]) for i in range(k)] + [L(loc_v[y[1]]) if y[0] == 'v' else L(loc_f[y[1]]) for y in arg]
     x.under(f'calls-at ! fm (Callee 𝓤 H A at-mem run) known to {passed(passes)} (λ u.')
     x.line()
@@ -441,19 +519,19 @@ def generate(s):
     x.move('res')
     x.line(x.shown())
     x.under('peeks ! E.the-row (Is E.the-row) (shows 𝓤 H A E.the-row) m (u ∷ []) (λ is.')
-    typed = 'EL.lawful E.the-type E′.the-laws 𝓤 H A W tt .typed m _ is .0'
+    typed = f'{S.laws}.lawful E.the-type E′.the-laws 𝓤 H A W{S.of_enum} .typed m _ is .0'
     x.say(f'land ! (from ! (stop !)) (init ! {L(loc_a)} refl ({typed})) $')
     x.line('the second call')
     x.step('nothing', 0, 'D')
     x.move('res', 'D')
     x.step('fjoin', 2, 'D')
-    for j in reversed(range(nf)):
+    for j in reversed(kept):
         field_owned(j)
         x.step('fjoin', 2, 'D')
     x.step('nothing', 0, 'T2')
     x.say('use2 W (raw (After 𝓤 H A at-mem run .pre (aft m u))) (asked-after m u) $')
     x.put(2, 'pre')
-    x.under(f'calls-at ! fm (After 𝓤 H A at-mem run) known′ (aft m u) {passed([L(l) for l in loc_f] + [L(loc_a)])} (λ u′.')
+    x.under(f'calls-at ! fm (After 𝓤 H A at-mem run) known′ (aft m u) {passed([L(loc_f[j]) for j in kept] + [L(loc_a)])} (λ u′.')
     x.line()
     x.say(f'use1 W (later (some (λ (n : {place}). (‵ ftrue ⊛ ‵ (T.the-row .own n (u′ ∷ []))) ⊛ raw (ensured 𝓤 H A {K}.ended ({K}.clauses 𝓤 H A at-mem run) tt (aa m) tt n)))) (id⊢ 𝓤 _) $ await ! tt $')
     x.under('pick ! (λ n.')
@@ -503,10 +581,8 @@ def generate(s):
     # the contract
     w('module _ {M : Type 1} (𝓤 : URA M) (H : Heap 𝓤) (A : Atoms 𝓤) (W : Given 𝓤 H A) (mem : Memory → SProp 𝓤) (run : Routine → Fun 𝓤) where')
     w(f'  walks : (C : Calls 𝓤 H) (Λ : Loops 𝓤 H) → FmC 𝓤 H (W .laws) C → Triple 𝓤 (C {key(callee)}) (Callee 𝓤 H A mem run) → Triple 𝓤 (C {key(after)}) (After 𝓤 H A mem run) → Walks 𝓤 H A {F}.ended stayed (WpFn 𝓤 H C Λ code.function) ({F}.clauses 𝓤 H A mem run)')
-    val = lambda j: f'LL.vals {alias(j)}.the-type {alias(j)}′.the-laws' if is_struct(j) else f'uint-vals {WIDTH[values[j][1]][0]}'
-    tell = lambda j: f'LL.tells {alias(j)}.the-type {alias(j)}′.the-laws' if is_struct(j) else f'uint-tells {WIDTH[values[j][1]][0]}'
-    tells = [('shr' if i in shared else 'mut') + f'-slice-tells (named {i}) (κs {comp(i)}) {elem(i)}' for i in range(k)] + [f'mut-tells (named {k}) (κs {comp(k)}) T.the-row'] + [tell(j) for j in range(nv)]
-    w(f'  walks C Λ fm known known′ = walked 𝓤 H A {F}.ended stayed ({F}.clauses 𝓤 H A mem run) (WpFn 𝓤 H C Λ code.function) (λ κs. {tuple_of(["slice-vals"] * k + ["ptr-vals"] + [val(j) for j in range(nv)])}) (λ κs. {tuple_of(tells)})')
+    tells = [S.slice_tells(i) for i in range(k)] + [f'mut-tells (named {k}) (κs {comp(k)}) T.the-row'] + [S.tells(j) for j in range(nv)]
+    w(f'  walks C Λ fm known known′ = walked 𝓤 H A {F}.ended stayed ({F}.clauses 𝓤 H A mem run) (WpFn 𝓤 H C Λ code.function) (λ κs. {tuple_of(["slice-vals"] * k + ["ptr-vals"] + [S.vals(j) for j in range(nv)])}) (λ κs. {tuple_of(tells)})')
     kk = ' '.join(f'(κs {comp(i)})' for i in range(k + 1))
     qq = ' '.join(f'(qs {comp(i)})' for i in range(k + 1))
     ax = ' '.join(f'(a {comp(i)})' for i in range(k))
@@ -516,11 +592,10 @@ def generate(s):
     inner = f'walk 𝓤 H A W mem run {kk} {qq} {ax} ({p} .ptr .0) ({p} .ptr .1) ({p} .name) ({p} .now) {av} C Λ fm known known′ {are}'
     w(f'      (λ κs qs bounds a g are. ' + (f'needs 𝓤 _ _ (λ holds. {inner} holds)' if requires else f'via 𝓤 _ (fst∗ 𝓤 _ (emp 𝓤)) ({inner})') + ')\n')
     w(f'meets : {{M : Type 1}} (𝓤 : URA M) (H : Heap 𝓤) (A : Atoms 𝓤) → Given 𝓤 H A → (mem : Memory → SProp 𝓤) (run : Routine → Fun 𝓤) (𝓣 : Tables 𝓤 H) → Triple 𝓤 (𝓣 .C {key(callee)}) (Callee 𝓤 H A mem run) → Triple 𝓤 (𝓣 .C {key(after)}) (After 𝓤 H A mem run)\n    → Meets 𝓤 H A {F}.signature (WpFn 𝓤 H (𝓣 .C) (𝓣 .Λ) code.function) ({F}.spec 𝓤 H A mem run)')
-    goes = [(f'goes-none-slice 𝓤 H A W {k + 1} ({i} ∷ []) tt (plain (λ _. {elem(i)})) yes' if i in shared else f'goes-gave-slice 𝓤 H A W {k + 1} {i} tt (plain (λ _. {elem(i)}))') for i in range(k)]
+    goes = [S.goes(k + 1, i) for i in range(k)]
     goes += [f'goes-ref 𝓤 H A W {k + 1} {k} tt (plain (λ _. T.the-row))'] + [f'goes-none 𝓤 H A W {k + 1} (λ _. {row(j)}) yes (λ κs x f. refl)' for j in range(nv)]
     w(f'meets 𝓤 H A W mem run 𝓣 known known′ =\n    walk-meets 𝓤 H A {F}.ended stayed W {tuple_of(goes)} ({F}.clauses 𝓤 H A mem run)\n    (WpFn 𝓤 H (𝓣 .C) (𝓣 .Λ) code.function) (WpFn-mono 𝓤 H (W .laws) 𝓣 code.function) (walks 𝓤 H A W mem run (𝓣 .C) (𝓣 .Λ) (fmOf 𝓤 H (W .laws) 𝓣) known known′)\n')
-    cite = lambda c, name: f'(cited 𝓤 H ({c} 𝓤 H (𝓖 .A) (𝓜 .mem) (𝓡 .run)) 𝓜 𝓡 code.env {key(name)} {dash(name)}-def.routine {calls(name)} ({dash(name)}-thm.met 𝓤 H 𝓜 𝓖 𝓡))'
-    w(f'pub {F}-spec : {{M : Type 1}} → stated.statement M\nunfolding code.routine tablesOf\n{F}-spec 𝓤 H 𝓜 𝓖 𝓡 =\n    entered 𝓤 H (tripleOf 𝓤 H (𝓖 .A) {F}.signature ({F}.spec 𝓤 H (𝓖 .A) (𝓜 .mem) (𝓡 .run)))\n    (tables 𝓤 H 𝓜 𝓡 code.env .C) (tables 𝓤 H 𝓜 𝓡 code.env .Λ) {key(fn)} code.function (code.unfolded 𝓤 H 𝓜 𝓡)\n    (meets 𝓤 H (𝓖 .A) (givenOf 𝓤 H 𝓜 𝓖) (𝓜 .mem) (𝓡 .run) (tablesOf 𝓤 H 𝓜 (tables 𝓤 H 𝓜 𝓡 code.env))\n    {cite("Callee", callee)}\n    {cite("After", after)})')
+    w(S.closing(S.cite('Callee', G, callee), S.cite('After', K, after)))
     return '\n'.join(o) + '\n'
 
 

@@ -9,6 +9,8 @@ use cases::head::wide;
 use cases::slices::put_bytes;
 use cases::slices::put_pattern;
 use cases::start::put_block;
+use moved::MbMoved;
+use outcome::Cursor;
 use outcome::MbAnswer;
 use parsing::parse::ParseAnswer;
 use parsing::parse::parse_record;
@@ -27,15 +29,25 @@ fn end_of(head: &[u8; 80]) -> usize
     short_at(head, 62) + short_at(head, 58)
 }
 
-pub fn answered(got: MbAnswer, head: &[u8; 80]) -> bool {
-    match got {
+fn stands_at(cursor: Cursor, place: usize, quantiser: u32) -> bool {
+    (cursor.place == place) & (cursor.quantiser == quantiser)
+}
+
+// A refusal leaves the cursor where the call found it.
+pub fn answered(got: MbMoved, head: &[u8; 80]) -> bool {
+    let answer = got.answer;
+    let cursor = got.cursor;
+    match answer {
         MbAnswer::Accepted(place, quantiser, filled, _) => {
             (head[2] == 0)
                 & (place == long_at(head, 40))
                 & (quantiser == number_at(head, 28))
                 & (filled == end_of(head))
+                & stands_at(cursor, long_at(head, 40), number_at(head, 28))
         }
-        MbAnswer::Refused(why) => refused(why, head),
+        MbAnswer::Refused(why) => {
+            refused(why, head) & stands_at(cursor, long_at(head, 32), number_at(head, 24))
+        }
     }
 }
 
@@ -62,28 +74,17 @@ fn parses(transcript: &[u8], head: &[u8; 80]) -> bool {
     }
 }
 
-// The transcript has the record at its fill, and what it had everywhere else.
-fn transcript_agrees(transcript: &[u8], record: &[u8], head: &[u8; 80]) -> bool {
-    let mut expected = [0u8; 4200];
-    put_pattern(&mut expected);
-    put_bytes(
-        &mut expected,
-        record,
-        0,
-        short_at(head, 62),
-        short_at(head, 58),
-    );
-    check::same(&expected, transcript)
-}
-
-// Takes what follows the bits, makes the state the expected one, and compares the transcript.
-pub fn take_answer(state: &mut [u8], transcript: &[u8], head: &[u8; 80]) -> bool {
+// Takes what follows the bits: the state becomes the expected one. The expected transcript has the record at its fill,
+// and what it had everywhere else.
+pub fn take_answer(state: &mut [u8], expected: &mut [u8], head: &[u8; 80]) -> bool {
     let mut record = [0u8; 2200];
     let mut block = [0u8; 528];
+    put_pattern(expected);
     if head[2] != 0 {
-        return transcript_agrees(transcript, &record, head);
+        return true;
     }
     let whole = fill(&mut record, short_at(head, 58)) & fill(&mut block, 528);
     put_block(state, &block, head);
-    whole & transcript_agrees(transcript, &record, head) & parses(transcript, head)
+    put_bytes(expected, &record, 0, short_at(head, 62), short_at(head, 58));
+    whole & parses(expected, head)
 }

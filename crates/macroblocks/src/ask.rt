@@ -1,4 +1,4 @@
-// A macroblock of the list is decoded, and all that it left is compared.
+// A macroblock of the list is decoded, by value and by the thin entry, and all that it left is compared.
 ghost use Prim.Native.Nat.{_≤_};
 ghost use lib.ListN.{length};
 use crate::answer::answered;
@@ -7,14 +7,17 @@ use cases::head::fill;
 use cases::head::long_at;
 use cases::head::number_at;
 use cases::head::short_at;
+use cases::slices::copy;
 use cases::slices::put_pattern;
 use cases::slices::within;
 use cases::state::lent_of;
 use cases::state::same_state;
 use cases::state::unpack;
 use macroblock::svq3_frame::decode_inter_mb;
+use moved::MbMoved;
+use moved::decode_moved;
 use outcome::Frame;
-use outcome::MbAnswer;
+use outcome::cursor_by;
 use questions::Call;
 use reading::svq3_frame::Flags;
 
@@ -39,7 +42,66 @@ fn call_of(head: &[u8; 80]) -> Call {
     }
 }
 
-// The macroblock, decoded. What is lent is the start of each part, as long as the head says.
+// The macroblock, decoded by the thin entry or by value.
+fn decode(
+    y: &mut [u8],
+    cb: &mut [u8],
+    cr: &mut [u8],
+    mv: &mut [i32],
+    marks: &mut [u8],
+    transcript: &mut [u8],
+    ry: &[u8],
+    rcb: &[u8],
+    rcr: &[u8],
+    bits: &[u8],
+    frame: Frame,
+    call: Call,
+    quantiser: u32,
+    place: usize,
+    fill: usize,
+    thin: bool,
+) -> MbMoved {
+    if thin {
+        return decode_moved(
+            y,
+            cb,
+            cr,
+            mv,
+            marks,
+            transcript,
+            ry,
+            rcb,
+            rcr,
+            bits,
+            frame,
+            call,
+            quantiser,
+            place,
+            fill,
+        );
+    }
+    let answer = decode_inter_mb(
+        y,
+        cb,
+        cr,
+        mv,
+        marks,
+        transcript,
+        ry,
+        rcb,
+        rcr,
+        bits,
+        frame,
+        call,
+        quantiser,
+        place,
+        fill,
+    );
+    let cursor = cursor_by(place, quantiser, answer);
+    MbMoved { answer, cursor }
+}
+
+// What is lent is the start of each part, as long as the head says.
 fn lend(
     y: &mut [u8],
     cb: &mut [u8],
@@ -50,7 +112,8 @@ fn lend(
     reference: &[u8],
     bits: &[u8],
     head: &[u8; 80],
-) -> MbAnswer
+    thin: bool,
+) -> MbMoved
     requires { ⌜ (1600 ≤ length (now y)) × (400 ≤ length (now cb)) × (400 ≤ length (now cr)) × (200 ≤ length (now mv)) × (100 ≤ length (now marks)) × (4200 ≤ length (now transcript)) × (2400 ≤ length (now reference)) ⌝ }
 {
     let frame = frame_of(head);
@@ -68,7 +131,7 @@ fn lend(
     let rcb = l.rcb;
     let rcr = l.rcr;
     let room = within(short_at(head, 60), 4200);
-    decode_inter_mb(
+    decode(
         &mut y[..ny],
         &mut cb[..ncb],
         &mut cr[..ncr],
@@ -84,18 +147,27 @@ fn lend(
         quantiser,
         place,
         fill,
+        thin,
     )
 }
 
-// The macroblock is decoded into the state's parts; then the state becomes the expected one, and all of it is compared.
-fn compare(state: &mut [u8], reference: &[u8; 2400], bits: &[u8], head: &[u8; 80]) -> bool {
+// The macroblock from a start's parts, in one of the two forms: the answer, the cursor and all that is left are as expected.
+fn form_agrees(
+    start: &[u8],
+    end: &[u8],
+    reference: &[u8; 2400],
+    bits: &[u8],
+    expected: &[u8],
+    head: &[u8; 80],
+    thin: bool,
+) -> bool {
     let mut y = [0u8; 1600];
     let mut cb = [0u8; 400];
     let mut cr = [0u8; 400];
     let mut mv = [0i32; 200];
     let mut marks = [0u8; 100];
     let mut transcript = [0u8; 4200];
-    unpack(&mut y, &mut cb, &mut cr, &mut mv, &mut marks, state);
+    unpack(&mut y, &mut cb, &mut cr, &mut mv, &mut marks, start);
     put_pattern(&mut transcript);
     let got = lend(
         &mut y,
@@ -107,10 +179,21 @@ fn compare(state: &mut [u8], reference: &[u8; 2400], bits: &[u8], head: &[u8; 80
         reference,
         bits,
         head,
+        thin,
     );
-    let whole = take_answer(state, &transcript, head);
-    let same = same_state(&y, &cb, &cr, &mv, &marks, state);
-    answered(got, head) & whole & same
+    let same = same_state(&y, &cb, &cr, &mv, &marks, end);
+    answered(got, head) & same & check::same(&transcript, expected)
+}
+
+// Takes the answer, which makes the state the expected one; then the macroblock is decoded from the state that was.
+fn compare(state: &mut [u8], reference: &[u8; 2400], bits: &[u8], head: &[u8; 80]) -> bool {
+    let mut start = [0u8; 3300];
+    let mut expected = [0u8; 4200];
+    copy(&mut start, state, 0);
+    let whole = take_answer(state, &mut expected, head);
+    let by_value = form_agrees(&start, state, reference, bits, &expected, head, false);
+    let thin = form_agrees(&start, state, reference, bits, &expected, head, true);
+    whole & by_value & thin
 }
 
 // Whether a macroblock, its bits and its answer yet to come, was decoded as the answer says.

@@ -54,7 +54,10 @@ fn print_counts(accepted: u64, refused: u64, differ: u64)
     requires { ⌜ (accepted < 4294967296) × (refused < 4294967296) ⌝ }
 {
     io::print_decimal(STDOUT_FILENO, accepted + refused);
-    io::write_all(STDOUT_FILENO, b" macroblocks, ");
+    io::write_all(
+        STDOUT_FILENO,
+        b" macroblocks, each by value and by the thin entry, ",
+    );
     io::print_decimal(STDOUT_FILENO, accepted);
     io::write_all(STDOUT_FILENO, b" accepted, ");
     io::print_decimal(STDOUT_FILENO, refused);

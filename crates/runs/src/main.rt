@@ -55,7 +55,10 @@ fn take_record(state: &mut [u8], reference: &mut [u8; 2400]) -> Turn
 
 fn print_counts(runs: u64, stopped: u64, replays: u64, differ: u64) {
     io::print_decimal(STDOUT_FILENO, runs);
-    io::write_all(STDOUT_FILENO, b" runs, ");
+    io::write_all(
+        STDOUT_FILENO,
+        b" runs, each by value and by the thin entry, ",
+    );
     io::print_decimal(STDOUT_FILENO, stopped);
     io::write_all(STDOUT_FILENO, b" stopped, ");
     io::print_decimal(STDOUT_FILENO, replays);

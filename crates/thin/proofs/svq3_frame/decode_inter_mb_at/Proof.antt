@@ -1,4 +1,4 @@
--- `cursor::svq3_frame::decode_inter_mb_at` meets its contract: a walk of its MIR. The borrow of the struct is opened and its fields are read, `decode_inter_mb` is called on the slices, the values and the fields, `cursor_by` on the fields and the answer, its fields are stored, and the borrow is closed there.
+-- `thin::svq3_frame::decode_inter_mb_at` meets its contract: a walk of its MIR. The borrow of the struct is opened and its fields are read, `decode_inter_mb` is called on the slices, the values and the fields, `cursor_by` on the fields and the answer, its fields are stored, and the borrow is closed there.
 -- A `&mut` slice is given to the callee for good, at its own lifetime, share and name. What a `&` slice owns is had twice. Written by tools/walks/thin_entry.py, which counts the positions.
 -- Assumes nothing.
 use mathlib.Core.Path.{_≡_, refl, sym, ap, _∙_}
@@ -35,7 +35,6 @@ use denote.Signature.{plain}
 use denote.Steps.{only, opens, closes, owned, peeks, heard, nothing}
 use denote.Struct.Steps.{spelt}
 use denote.Struct.Laws as LL
-use denote.Enum.Laws as EL
 use denote.Triple.Entry.{onEntry}
 use denote.Triple.Spec.{Meets, tripleOf}
 use denote.Triple.Statement.{Contract, Triple}
@@ -44,6 +43,7 @@ use denote.Triple.Clauses.{ensured, lasts}
 use denote.Triple.Table.{entered, cited}
 use denote.Triple.Walked.{says, needs, Stays, stay-ref, stay-none, stay-none-slice, gave-slice, walkOf, goes-none, goes-ref, goes-none-slice, goes-gave-slice, Walks, ends-at, walked, walk-meets}
 use denote.Exit.{yes}
+use denote.Enum.Laws as EL
 use Rattle.outcome.specs.State.{State}
 use Rattle.outcome.specs.Decode.{decoded}
 use Rattle.outcome.specs.Entry.{stateOf, quantiserBy, left, cursorBy}
@@ -60,28 +60,28 @@ use Rattle.outcome.proofs.Frame.Laws as V0′
 use Rattle.questions.specs.declared.Call.{Call}
 use Rattle.questions.proofs.Call as V1
 use Rattle.questions.proofs.Call.Laws as V1′
-use Rattle.macroblock.proofs.svq3_frame.decode_inter_mb as decode-inter-mb
-use Rattle.macroblock.proofs.svq3_frame.decode_inter_mb.Symbol as decode-inter-mb-def
+use Rattle.macroblock.proofs.svq3_frame.decode_inter_mb as callee
+use Rattle.macroblock.proofs.svq3_frame.decode_inter_mb.Symbol as callee-def
 use Rattle.macroblock.proofs.svq3_frame.decode_inter_mb.Symbol.{name as #macroblock·decode-inter-mb}
-use Rattle.macroblock.proofs.svq3_frame.decode_inter_mb.Met as decode-inter-mb-thm
-use Rattle.outcome.proofs.cursor_by as cursor-by
-use Rattle.outcome.proofs.cursor_by.Symbol as cursor-by-def
+use Rattle.macroblock.proofs.svq3_frame.decode_inter_mb.Met as callee-thm
+use Rattle.outcome.proofs.cursor_by as after
+use Rattle.outcome.proofs.cursor_by.Symbol as after-def
 use Rattle.outcome.proofs.cursor_by.Symbol.{name as #outcome·cursor-by}
-use Rattle.outcome.proofs.cursor_by.Met as cursor-by-thm
-use Rattle.cursor.proofs.svq3_frame.decode_inter_mb_at.Key.{name as #cursor·decode-inter-mb-at}
-use Rattle.cursor.proofs.svq3_frame.decode_inter_mb_at as decode-inter-mb-at
-use Rattle.cursor.proofs.svq3_frame.decode_inter_mb_at.Statement as stated
-use Rattle.cursor.proofs.svq3_frame.decode_inter_mb_at.Code as code
+use Rattle.outcome.proofs.cursor_by.Met as after-thm
+use Rattle.thin.proofs.svq3_frame.decode_inter_mb_at.Key.{name as #thin·decode-inter-mb-at}
+use Rattle.thin.proofs.svq3_frame.decode_inter_mb_at as decode-inter-mb-at
+use Rattle.thin.proofs.svq3_frame.decode_inter_mb_at.Statement as stated
+use Rattle.thin.proofs.svq3_frame.decode_inter_mb_at.Code as code
 
 abbrev stayed : Stays (decode-inter-mb-at.ended .signature .params) (decode-inter-mb-at.ended .kept)
 stayed = (gave-slice (0 ∷ []) tt (plain (λ _. u8)), (gave-slice (1 ∷ []) tt (plain (λ _. u8)), (gave-slice (2 ∷ []) tt (plain (λ _. u8)), (gave-slice (3 ∷ []) tt (plain (λ _. i32)), (gave-slice (4 ∷ []) tt (plain (λ _. u8)), (gave-slice (5 ∷ []) tt (plain (λ _. u8)), (stay-none-slice (6 ∷ []) tt (plain (λ _. u8)) yes, (stay-none-slice (7 ∷ []) tt (plain (λ _. u8)) yes, (stay-none-slice (8 ∷ []) tt (plain (λ _. u8)) yes, (stay-none-slice (9 ∷ []) tt (plain (λ _. u8)) yes, (stay-ref (10 ∷ []) tt (plain (λ _. T.the-row)), (stay-none (λ _. V0.the-row) yes, (stay-none (λ _. V1.the-row) yes, (stay-none (λ _. usize) yes, tt))))))))))))))
 
 -- the contracts that the proof cites
 abbrev Callee : {M : Type 1} (𝓤 : URA M) (H : Heap 𝓤) (A : Atoms 𝓤) (mem : Memory → SProp 𝓤) (run : Routine → Fun 𝓤) → Contract 𝓤
-Callee 𝓤 H A mem run = tripleOf 𝓤 H A decode-inter-mb.signature (decode-inter-mb.spec 𝓤 H A mem run)
+Callee 𝓤 H A mem run = tripleOf 𝓤 H A callee.signature (callee.spec 𝓤 H A mem run)
 
 abbrev After : {M : Type 1} (𝓤 : URA M) (H : Heap 𝓤) (A : Atoms 𝓤) (mem : Memory → SProp 𝓤) (run : Routine → Fun 𝓤) → Contract 𝓤
-After 𝓤 H A mem run = tripleOf 𝓤 H A cursor-by.signature (cursor-by.spec 𝓤 H A mem run)
+After 𝓤 H A mem run = tripleOf 𝓤 H A after.signature (after.spec 𝓤 H A mem run)
 
 module _ {M : Type 1} (𝓤 : URA M) (H : Heap 𝓤) (A : Atoms 𝓤) (W : Given 𝓤 H A) (at-mem : Memory → SProp 𝓤) (run : Routine → Fun 𝓤) (κ0 κ1 κ2 κ3 κ4 κ5 κ6 κ7 κ8 κ9 κ : Lft) (q0 q1 q2 q3 q4 q5 q6 q7 q8 q9 q : Share) (x0 : RefT (List ℕ)) (x1 : RefT (List ℕ)) (x2 : RefT (List ℕ)) (x3 : RefT (List ℤ)) (x4 : RefT (List ℕ)) (x5 : RefT (List ℕ)) (x6 : RefT (List ℕ)) (x7 : RefT (List ℕ)) (x8 : RefT (List ℕ)) (x9 : RefT (List ℕ)) (b o : ℕ) (γ : GName) (h : Cursor) (w0 : Frame) (w1 : Call) (w2 : ℕ) where
   abbrev Arg : Type 0
@@ -141,7 +141,7 @@ module _ {M : Type 1} (𝓤 : URA M) (H : Heap 𝓤) (A : Atoms 𝓤) (W : Given
   abbrev Said : MbAnswer → Lasts → Type 0
   Said m zs = left m (stateOf w0 (quantiserBy (h .quantiser) m) (x6 .now) (x7 .now) (x8 .now) (zs .0) (zs .1 .0) (zs .1 .1 .0) (zs .1 .1 .1 .0) (zs .1 .1 .1 .1 .0)) (zs .1 .1 .1 .1 .1 .0) ≡ decoded (stateOf w0 (h .quantiser) (x6 .now) (x7 .now) (x8 .now) (x0 .now) (x1 .now) (x2 .now) (x3 .now) (x4 .now)) w1 (x9 .now) (h .place) (x5 .now) w2
 
-  -- the second call, on the fields and the answer m, whose machine value is u
+  -- the second call, on the answer m, whose machine value is u
   abbrev AArg : Type 0
   AArg = ℕ × (ℕ × (MbAnswer × Unit {0}))
 
@@ -210,15 +210,15 @@ module _ {M : Type 1} (𝓤 : URA M) (H : Heap 𝓤) (A : Atoms 𝓤) (W : Given
         move ! (13 ∷ []) $ use1 W (‵ (ShrSlice (named 6) κ6 u8 .own x6 (v x6 ∷ [])) ⊛ ‵ (ShrSlice (named 6) κ6 u8 .own x6 (v x6 ∷ []))) (shr-slice-copy 𝓤 H A W (named 6) κ6 u8 .twice x6 (v x6 ∷ [])) $ split ! $ move ! (14 ∷ []) $ use1 W (‵ (ShrSlice (named 7) κ7 u8 .own x7 (v x7 ∷ [])) ⊛ ‵ (ShrSlice (named 7) κ7 u8 .own x7 (v x7 ∷ []))) (shr-slice-copy 𝓤 H A W (named 7) κ7 u8 .twice x7 (v x7 ∷ [])) $ split ! $ move ! (15 ∷ []) $ use1 W (‵ (ShrSlice (named 8) κ8 u8 .own x8 (v x8 ∷ [])) ⊛ ‵ (ShrSlice (named 8) κ8 u8 .own x8 (v x8 ∷ []))) (shr-slice-copy 𝓤 H A W (named 8) κ8 u8 .twice x8 (v x8 ∷ [])) $ split ! $ move ! (16 ∷ []) $ use1 W (‵ (ShrSlice (named 9) κ9 u8 .own x9 (v x9 ∷ [])) ⊛ ‵ (ShrSlice (named 9) κ9 u8 .own x9 (v x9 ∷ []))) (shr-slice-copy 𝓤 H A W (named 9) κ9 u8 .twice x9 (v x9 ∷ [])) $ split ! $ nothing ! $ move ! (15 ∷ 0 ∷ []) $ fjoin ! $ owned ! usize (Is usize) (uint-makes 𝓤 H A W w64) (h .place) _ (refl, place-fits h _ g) $ fjoin ! $ owned ! u32 (Is u32) (uint-makes 𝓤 H A W w32) (h .quantiser) _ (refl, quantiser-fits h _ g) $ fjoin ! $ move ! (16 ∷ 0 ∷ []) $ fjoin ! $ move ! (16 ∷ 0 ∷ []) $ fjoin ! $ move ! (1 ∷ 0 ∷ []) $ fjoin ! $ move ! (2 ∷ 0 ∷ []) $ fjoin ! $ move ! (3 ∷ 0 ∷ []) $ fjoin ! $ move ! (4 ∷ 0 ∷ []) $ fjoin ! $ move ! (12 ∷ 0 ∷ []) $ fjoin ! $ move ! (12 ∷ 0 ∷ []) $ fjoin ! $ move ! (12 ∷ 0 ∷ []) $ fjoin ! $ move ! (12 ∷ 0 ∷ []) $ fjoin ! $ move ! (12 ∷ 0 ∷ []) $ fjoin ! $ move ! (12 ∷ 0 ∷ []) $ fjoin ! $ move ! (10 ∷ 0 ∷ []) $ use2 W (raw (Callee 𝓤 H A at-mem run .pre to)) asked $
         -- [pre; x9; x8; x7; x6; cell; place; open; obs; auth; V2; _30; _29; _28; _27; _26; _25; _24; _23; _22; _21; _20; _19; _18; _17; _16; _15; _14; _13; _12; _11; _10; _9; _8; _7; _6; _5; _4; _3; _2; _1; _0]
         calls-at ! fm (Callee 𝓤 H A at-mem run) known to (and-then ! (load ! (from ! (stop !)) (look ! 31 refl)) (and-then ! (load ! (from ! (stop !)) (look ! 27 refl)) (and-then ! (load ! (from ! (stop !)) (look ! 23 refl)) (and-then ! (load ! (from ! (stop !)) (look ! 19 refl)) (and-then ! (load ! (from ! (stop !)) (look ! 15 refl)) (and-then ! (load ! (from ! (stop !)) (look ! 11 refl)) (and-then ! (load ! (from ! (stop !)) (look ! 57 refl)) (and-then ! (load ! (from ! (stop !)) (look ! 55 refl)) (and-then ! (load ! (from ! (stop !)) (look ! 53 refl)) (and-then ! (load ! (from ! (stop !)) (look ! 51 refl)) (and-then ! (load ! (from ! (stop !)) (look ! 47 refl)) (and-then ! (load ! (from ! (stop !)) (look ! 45 refl)) (and-then ! (load ! (from ! (stop !)) (look ! 39 refl)) (and-then ! (load ! (from ! (stop !)) (look ! 41 refl)) (and-then ! (load ! (from ! (stop !)) (look ! 43 refl)) (no-more !)))))))))))))))) (λ u.
-        use1 W (later (some (λ (m : MbAnswer). ((‵ (flft κ0 q0) ⊛ ‵ (flft κ1 q1) ⊛ ‵ (flft κ2 q2) ⊛ ‵ (flft κ3 q3) ⊛ ‵ (flft κ4 q4) ⊛ ‵ (flft κ5 q5) ⊛ ‵ (flft κ6 q6) ⊛ ‵ (flft κ7 q7) ⊛ ‵ (flft κ8 q8) ⊛ ‵ (flft κ9 q9) ⊛ ‵ ftrue) ⊛ ‵ (E.the-row .own m (u ∷ []))) ⊛ raw (ensured 𝓤 H A decode-inter-mb.ended (decode-inter-mb.clauses 𝓤 H A at-mem run) (κ0, (κ1, (κ2, (κ3, (κ4, (κ5, (κ6, (κ7, (κ8, (κ9, tt)))))))))) ca tt m)))) (id⊢ 𝓤 _) $ await ! tt $ pick ! (λ m. split ! $ move ! (1 ∷ []) $
+        use1 W (later (some (λ (m : MbAnswer). ((‵ (flft κ0 q0) ⊛ ‵ (flft κ1 q1) ⊛ ‵ (flft κ2 q2) ⊛ ‵ (flft κ3 q3) ⊛ ‵ (flft κ4 q4) ⊛ ‵ (flft κ5 q5) ⊛ ‵ (flft κ6 q6) ⊛ ‵ (flft κ7 q7) ⊛ ‵ (flft κ8 q8) ⊛ ‵ (flft κ9 q9) ⊛ ‵ ftrue) ⊛ ‵ (E.the-row .own m (u ∷ []))) ⊛ raw (ensured 𝓤 H A callee.ended (callee.clauses 𝓤 H A at-mem run) (κ0, (κ1, (κ2, (κ3, (κ4, (κ5, (κ6, (κ7, (κ8, (κ9, tt)))))))))) ca tt m)))) (id⊢ 𝓤 _) $ await ! tt $ pick ! (λ m. split ! $ move ! (1 ∷ []) $
         -- what the callee ensures, at some last lists
-        use1 W (some (λ (zs : Lasts). ‵ (lasts decode-inter-mb.ended (κ0, (κ1, (κ2, (κ3, (κ4, (κ5, (κ6, (κ7, (κ8, (κ9, tt)))))))))) ca zs) ⊛ raw (fact 𝓤 (Said m zs)))) (id⊢ 𝓤 _) $ pick ! (λ zs. split ! $ move ! (1 ∷ []) $ heard ! (Said m zs) (λ e. fsplit ! $ fsplit ! $ move ! (1 ∷ []) $ feqL ! (λ l0. move ! (1 ∷ []) $ fsplit ! $ fsplit ! $ move ! (1 ∷ []) $ feqL ! (λ l1. move ! (1 ∷ []) $ fsplit ! $ fsplit ! $ move ! (1 ∷ []) $ feqL ! (λ l2. move ! (1 ∷ []) $ fsplit ! $ fsplit ! $ move ! (1 ∷ []) $ feqL ! (λ l3. move ! (1 ∷ []) $ fsplit ! $ fsplit ! $ move ! (1 ∷ []) $ feqL ! (λ l4. move ! (1 ∷ []) $ fsplit ! $ fsplit ! $ move ! (1 ∷ []) $ feqL ! (λ l5. move ! (1 ∷ []) $ fsplit ! $ move ! (1 ∷ []) $ fsplit ! $ move ! (1 ∷ []) $ fsplit ! $ move ! (1 ∷ []) $ fsplit ! $
+        use1 W (some (λ (zs : Lasts). ‵ (lasts callee.ended (κ0, (κ1, (κ2, (κ3, (κ4, (κ5, (κ6, (κ7, (κ8, (κ9, tt)))))))))) ca zs) ⊛ raw (fact 𝓤 (Said m zs)))) (id⊢ 𝓤 _) $ pick ! (λ zs. split ! $ move ! (1 ∷ []) $ heard ! (Said m zs) (λ e. fsplit ! $ fsplit ! $ move ! (1 ∷ []) $ feqL ! (λ l0. move ! (1 ∷ []) $ fsplit ! $ fsplit ! $ move ! (1 ∷ []) $ feqL ! (λ l1. move ! (1 ∷ []) $ fsplit ! $ fsplit ! $ move ! (1 ∷ []) $ feqL ! (λ l2. move ! (1 ∷ []) $ fsplit ! $ fsplit ! $ move ! (1 ∷ []) $ feqL ! (λ l3. move ! (1 ∷ []) $ fsplit ! $ fsplit ! $ move ! (1 ∷ []) $ feqL ! (λ l4. move ! (1 ∷ []) $ fsplit ! $ fsplit ! $ move ! (1 ∷ []) $ feqL ! (λ l5. move ! (1 ∷ []) $ fsplit ! $ move ! (1 ∷ []) $ fsplit ! $ move ! (1 ∷ []) $ fsplit ! $ move ! (1 ∷ []) $ fsplit ! $
         move ! (11 ∷ []) $ split ! $ move ! (1 ∷ []) $
         -- [res; T; last9; L9; last8; last7; last6; fin5; fin4; fin3; fin2; fin1; fin0; x9; x8; x7; x6; cell; place; open; obs; auth; V2; _30; _29; _28; _27; _26; _25; _24; _23; _22; _21; _20; _19; _18; _17; _16; _15; _14; _13; _12; _11; _10; _9; _8; _7; _6; _5; _4; _3; _2; _1; _0]
         peeks ! E.the-row (Is E.the-row) (shows 𝓤 H A E.the-row) m (u ∷ []) (λ is. land ! (from ! (stop !)) (init ! 49 refl (EL.lawful E.the-type E′.the-laws 𝓤 H A W tt .typed m _ is .0)) $
         -- the second call
         nothing ! $ move ! (1 ∷ 0 ∷ []) $ fjoin ! $ owned ! u32 (Is u32) (uint-makes 𝓤 H A W w32) (h .quantiser) _ (refl, quantiser-fits h _ g) $ fjoin ! $ owned ! usize (Is usize) (uint-makes 𝓤 H A W w64) (h .place) _ (refl, place-fits h _ g) $ fjoin ! $ nothing ! $ use2 W (raw (After 𝓤 H A at-mem run .pre (aft m u))) (asked-after m u) $ calls-at ! fm (After 𝓤 H A at-mem run) known′ (aft m u) (and-then ! (load ! (from ! (stop !)) (look ! 53 refl)) (and-then ! (load ! (from ! (stop !)) (look ! 51 refl)) (and-then ! (load ! (from ! (stop !)) (look ! 49 refl)) (no-more !)))) (λ u′.
-        use1 W (later (some (λ (n : Cursor). (‵ ftrue ⊛ ‵ (T.the-row .own n (u′ ∷ []))) ⊛ raw (ensured 𝓤 H A cursor-by.ended (cursor-by.clauses 𝓤 H A at-mem run) tt (aa m) tt n)))) (id⊢ 𝓤 _) $ await ! tt $ pick ! (λ n. split ! $ move ! (1 ∷ []) $ use1 W (some (λ (ys : ALasts). ‵ (lasts cursor-by.ended tt (aa m) ys) ⊛ raw (fact 𝓤 (Moved m n)))) (id⊢ 𝓤 _) $ pick ! (λ ys. split ! $ move ! (1 ∷ []) $ heard ! (Moved m n) (λ e′. move ! (1 ∷ []) $ split ! $ move ! (1 ∷ []) $
+        use1 W (later (some (λ (n : Cursor). (‵ ftrue ⊛ ‵ (T.the-row .own n (u′ ∷ []))) ⊛ raw (ensured 𝓤 H A after.ended (after.clauses 𝓤 H A at-mem run) tt (aa m) tt n)))) (id⊢ 𝓤 _) $ await ! tt $ pick ! (λ n. split ! $ move ! (1 ∷ []) $ use1 W (some (λ (ys : ALasts). ‵ (lasts after.ended tt (aa m) ys) ⊛ raw (fact 𝓤 (Moved m n)))) (id⊢ 𝓤 _) $ pick ! (λ ys. split ! $ move ! (1 ∷ []) $ heard ! (Moved m n) (λ e′. move ! (1 ∷ []) $ split ! $ move ! (1 ∷ []) $
         -- [res2; T3; lasts2; T; last9; L9; last8; last7; last6; fin5; fin4; fin3; fin2; fin1; fin0; x9; x8; x7; x6; cell; place; open; obs; auth; V2; _30; _29; _28; _27; _26; _25; _24; _23; _22; _21; _20; _19; _18; _17; _16; _15; _14; _13; _12; _11; _10; _9; _8; _7; _6; _5; _4; _3; _2; _1; _0]
         peeks ! T.the-row (Is T.the-row) (shows 𝓤 H A T.the-row) n (u′ ∷ []) (λ is′.
         land ! (from ! (stop !)) (init ! 49 refl (LL.lawful T.the-type T′.the-laws 𝓤 H A W .typed n _ is′ .0)) $ rewrite ! 49 (λ (w : Val). ‵ (fat fullShare T′.mir l18 0 w)) (ap only (LL.tells T.the-type T′.the-laws n (u′ ∷ []) is′)) refl $
@@ -247,7 +247,7 @@ pub decode-inter-mb-at-spec : {M : Type 1} → stated.statement M
 unfolding code.routine tablesOf
 decode-inter-mb-at-spec 𝓤 H 𝓜 𝓖 𝓡 =
     entered 𝓤 H (tripleOf 𝓤 H (𝓖 .A) decode-inter-mb-at.signature (decode-inter-mb-at.spec 𝓤 H (𝓖 .A) (𝓜 .mem) (𝓡 .run)))
-    (tables 𝓤 H 𝓜 𝓡 code.env .C) (tables 𝓤 H 𝓜 𝓡 code.env .Λ) #cursor·decode-inter-mb-at code.function (code.unfolded 𝓤 H 𝓜 𝓡)
+    (tables 𝓤 H 𝓜 𝓡 code.env .C) (tables 𝓤 H 𝓜 𝓡 code.env .Λ) #thin·decode-inter-mb-at code.function (code.unfolded 𝓤 H 𝓜 𝓡)
     (meets 𝓤 H (𝓖 .A) (givenOf 𝓤 H 𝓜 𝓖) (𝓜 .mem) (𝓡 .run) (tablesOf 𝓤 H 𝓜 (tables 𝓤 H 𝓜 𝓡 code.env))
-    (cited 𝓤 H (Callee 𝓤 H (𝓖 .A) (𝓜 .mem) (𝓡 .run)) 𝓜 𝓡 code.env #macroblock·decode-inter-mb decode-inter-mb-def.routine code.calls-macroblock·svq3-frame·decode-inter-mb (decode-inter-mb-thm.met 𝓤 H 𝓜 𝓖 𝓡))
-    (cited 𝓤 H (After 𝓤 H (𝓖 .A) (𝓜 .mem) (𝓡 .run)) 𝓜 𝓡 code.env #outcome·cursor-by cursor-by-def.routine code.calls-outcome·cursor-by (cursor-by-thm.met 𝓤 H 𝓜 𝓖 𝓡)))
+    (cited 𝓤 H (Callee 𝓤 H (𝓖 .A) (𝓜 .mem) (𝓡 .run)) 𝓜 𝓡 code.env #macroblock·decode-inter-mb callee-def.routine code.calls-macroblock·svq3-frame·decode-inter-mb (callee-thm.met 𝓤 H 𝓜 𝓖 𝓡))
+    (cited 𝓤 H (After 𝓤 H (𝓖 .A) (𝓜 .mem) (𝓡 .run)) 𝓜 𝓡 code.env #outcome·cursor-by after-def.routine code.calls-outcome·cursor-by (after-thm.met 𝓤 H 𝓜 𝓖 𝓡)))
