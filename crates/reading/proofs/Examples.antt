@@ -1,12 +1,10 @@
--- Reading, computed: document 01's example, two macroblocks that clip and have one record, and the delta of a quantiser.
+-- Reading, computed: document 01's example, and the delta of a quantiser.
 -- Assumes nothing.
 use mathlib.Core.Path.{_≡_, refl}
 use mathlib.Core.Bool.{true, false}
 use mathlib.Core.List.{List, [], _∷_}
 use lib.IntN.{pos, negsuc}
 use lib.ListN.{replicate}
-use lib.Seq.{sets}
-use Rattle.record.specs.Record.{Record}
 use Rattle.ints.specs.Z.{if_then_else_, floorZ, satZ, overZ, clampZ, minZ, maxZ, medianZ}
 use Rattle.refusal.specs.Got.{got, refused}
 use Rattle.refusal.specs.declared.Refusal.the-variants.{InvalidQuantiser}
@@ -29,20 +27,6 @@ pub read-printed :
     readMacroblock (contextOf 1 1 (replicate 32 (pos 0)) (replicate 16 0) (record { halfpel = false; thirdpel = false; delta = false }) 5) (record { column = 0; row = 0; mode = 1 }) (bitList (152 ∷ [])) ≡ got printed 5
 unfolding if_then_else_ floorZ satZ overZ clampZ minZ maxZ medianZ bitList codeFrom code signedOf signedCode patterns pattern quadrantCoded partitionWidth partitionHeight numMotionVectors offsetX offsetY precision cellAt nearAt leftOf aboveOf aboveLeftOf medianOf combined predicted heldIn predictor roundToSixths convertPredictor summed scaled storedPart clippedPart noVectors noLevels itemCoded readLists readItems printed predictorAt moved readVectors quantiserIn readQuantiser recordOf atFirst readResidual readCoded readMacroblock
 read-printed = refl
-
--- 1 vertical 0, horizontal +400,000,000 or +400,000,001, 1 pattern 0: six times either leaves i32, so both are held at its limit, and their records are equal
-unfoldable pub clippedRecord : Record
-clippedRecord = record {
-  head = record { column = 0; row = 0; mode = 1; precision = 0; clipped = 1; pattern = 0; quantiser = 5 };
-  vectors = sets noVectors 0 (pos 2147483647 ∷ pos 0 ∷ []);
-  levels = noLevels;
-}
-
-pub clipped-alike :
-    (readMacroblock (contextOf 1 1 (replicate 32 (pos 0)) (replicate 16 0) (record { halfpel = false; thirdpel = false; delta = false }) 5) (record { column = 0; row = 0; mode = 1 }) (bitList (138 ∷ 168 ∷ 138 ∷ 160 ∷ 8 ∷ 0 ∷ 0 ∷ 24 ∷ [])) ≡ got clippedRecord 61)
-    × (readMacroblock (contextOf 1 1 (replicate 32 (pos 0)) (replicate 16 0) (record { halfpel = false; thirdpel = false; delta = false }) 5) (record { column = 0; row = 0; mode = 1 }) (bitList (138 ∷ 168 ∷ 138 ∷ 160 ∷ 8 ∷ 0 ∷ 0 ∷ 152 ∷ [])) ≡ got clippedRecord 61)
-unfolding if_then_else_ floorZ satZ overZ clampZ minZ maxZ medianZ bitList codeFrom code signedOf signedCode patterns pattern quadrantCoded partitionWidth partitionHeight numMotionVectors offsetX offsetY precision cellAt nearAt leftOf aboveOf aboveLeftOf medianOf combined predicted heldIn predictor roundToSixths convertPredictor summed scaled storedPart clippedPart noVectors noLevels itemCoded readLists readItems clippedRecord predictorAt moved readVectors quantiserIn readQuantiser recordOf atFirst readResidual readCoded readMacroblock
-clipped-alike = (refl, refl)
 
 -- quantiser 31, delta +1: refused with 32; quantiser 0, delta -1: with -1; no delta with pattern 0 or without delta-enable
 pub deltas :
