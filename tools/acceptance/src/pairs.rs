@@ -1,5 +1,5 @@
-//! Unique reading: two runs of the library from one start, the second with other calls, bits, place or room. Where neither
-//! clips a component, accepted calls and consumed bits are equal exactly when the transcripts are.
+//! Unique reading: two runs of the library from one start, the second with other calls, bits, place or room. Equal
+//! accepted calls and consumed bits have equal transcripts; where one of the two clips no component, only these have.
 
 use crate::bits::Bits;
 use crate::case::Case;
@@ -75,7 +75,7 @@ fn compared(case: &Case, first: &Reading, given: &Given, tally: &mut Tally) -> R
     let second = reading(case, given)?;
     let (calls, bits) = (first.calls == second.calls, first.bits == second.bits);
     let alike = first.transcript == second.transcript;
-    let clipped = first.clipped || second.clipped;
+    let clipped = first.clipped && second.clipped;
     // Equal readings have one transcript, clipped or not.
     if (calls && bits) != alike && !(clipped && alike) {
         return Err(format!(
@@ -88,7 +88,7 @@ fn compared(case: &Case, first: &Reading, given: &Given, tally: &mut Tally) -> R
     }
     if clipped {
         let kind = if alike && !(calls && bits) { "one transcript of two readings" } else { "others" };
-        tally.add("pairs left out for a clipped component", kind);
+        tally.add("pairs of which both clip a component", kind);
         return Ok(());
     }
     let kind = match (calls, bits) {

@@ -22,7 +22,7 @@ const SECTIONS: [&str; 14] = [
     "damaged transcript",
     "second run of a pair",
     "pairs of runs from one start",
-    "pairs left out for a clipped component",
+    "pairs of which both clip a component",
     "counts too short",
 ];
 
