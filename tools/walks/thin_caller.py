@@ -12,6 +12,7 @@
 import json
 import sys
 
+sys.dont_write_bytecode = True
 from thin_entry import Shape, Walk, comp, contract, dash, items, nested, passed, tuple_of
 
 MORE = ['base.Fml.{flent}', 'types.Kit.{use3}', 'types.Tokens.{lft-new, lft-end}', 'denote.Lend.{LentRef}']

@@ -249,11 +249,11 @@ def passed(places):
 def generate(s):
     S = Shape(s, 'fn', 'callee', 'after')
     fn, callee, after, (place, place_crate) = S.fn, s['callee'][0], s['after'][0], s['place']
-    fields, values, answer = s['fields'], S.values, s['answer']
+    fields, answer = s['fields'], s['answer']
     # the fields that the second call takes before the answer
     kept = [j for j, (f, _) in enumerate(fields) if f in s['keeps']]
     k, nv, nf, muts, shared, own = S.k, S.nv, len(fields), S.muts, S.shared, S.own
-    key, elem, lists, is_struct, row, vtype, makes, own_of = S.key, S.elem, S.lists, S.is_struct, S.row, S.vtype, S.makes, S.own_of
+    key, elem, lists, row, vtype, makes, own_of = S.key, S.elem, S.lists, S.row, S.vtype, S.makes, S.own_of
     # the names under which the proof has the three functions; a callee's own name may be one of the walk's
     F, G, K = dash(fn), 'callee', 'after'
     requires = s.get('requires')
