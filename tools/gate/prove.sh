@@ -13,7 +13,7 @@ cd "$root"
 {
     status=0
     # rt starts its checks in batches and waits for the last of each: more of them than processors leaves none idle.
-    RT_JOBS=${RT_JOBS:-4} rt check "$@" 2>&1 || status=$?
+    RT_JOBS=${RT_JOBS:-8} rt check "$@" 2>&1 || status=$?
     echo "$status" > "$log.status"
 } | tools/gate/progress.sh "$log" "$@"
 status=$(cat "$log.status")

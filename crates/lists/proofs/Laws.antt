@@ -124,24 +124,6 @@ pub until-none : {E X : Type 0} (read : List E → Got X) (s : List E) (xs : Lis
 until-none read [] xs n h e = sym (got-value (sym (until-end read 0) ∙ e))
 until-none read (b ∷ s) xs n h e = absurd (omega arith)
 
--- ---- where a reader refuses nothing but what is not in form, so does the list
-unmapped : {X : Type 0} (x : X) (n : ℕ) (g : Got (List X)) (r : Refusal) → after n (mapGot (λ xs. x ∷ xs) g) ≡ refused r → g ≡ refused r
-unmapped x n (got xs m) r e = never (sym e)
-unmapped x n (refused r′) r e = e
-
-module _ {E X : Type 0} {read : List E → Got X} (only : (s : List E) (r : Refusal) → read s ≡ refused r → r ≡ NumberForm) where
-  turn-form : (turns : ℕ) (s : List E) → ((u : List E) (r : Refusal) → untilEnd read turns u ≡ refused r → r ≡ NumberForm)
-      → (g : Got X) → read s ≡ g → (r : Refusal) → andThen g s (λ x rest. mapGot (λ xs. x ∷ xs) (untilEnd read turns rest)) ≡ refused r → r ≡ NumberForm
-  turn-form turns s same (refused r′) p r e = let q : r′ ≡ r = cc in only s r (p ∙ ap refused q)
-  turn-form turns s same (got x n) p r e = same (drop n s) r (unmapped x n (untilEnd read turns (drop n s)) r e)
-
-  pub until-form : (turns : ℕ) (s : List E) (r : Refusal) → untilEnd read turns s ≡ refused r → r ≡ NumberForm
-  unfolding untilEnd
-  until-form zero [] r e = never (sym e)
-  until-form zero (b ∷ s) r e = cc
-  until-form (suc turns) [] r e = never (sym e)
-  until-form (suc turns) (b ∷ s) r e = turn-form turns (b ∷ s) (λ u q. until-form turns u q) (read (b ∷ s)) refl r e
-
 -- ---- a loop that counts the values of a list: its answer, where c were counted before
 abbrev pub tally : {X A : Type 0} → (ℕ → A) → (Refusal → A) → ℕ → Got (List X) → A
 tally counted stopped c (got xs n) = counted (c + length xs)

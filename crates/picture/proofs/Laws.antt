@@ -158,7 +158,7 @@ rows-painted {A} d l v {s} {x} {y} {w} {h} f = each-is _ d l (rows l s x y v w h
         sym (ap (λ (k : ℕ). getD (rows l s x y v w h) k d) (p .2)) ∙ rows-same l s x y v w h (i / s - y) (i % s - x) d (f .across) (f .down) (p .0) (p .1)
     go i false e = rows-other l s x y v w h i d (λ r c lr lc q. true≢false (sym (inside-in s x y w h r c (f .across) lr lc) ∙ ap (inside s x y w h) (sym q) ∙ e))
 
--- ---- what callers may want: what was painted is read back, all else is as it was, and what is painted apart may be painted in either order
+-- ---- what was painted is read back, and all else is as it was
 module _ {A : Type 0} where
   pub painted-length : (s x y w h : ℕ) (v : ℕ → ℕ → A) (l : List A) → length (painted s x y w h v l) ≡ length l
   unfolding painted
@@ -185,40 +185,6 @@ module _ {A : Type 0} where
       go : (i : ℕ) (a : A) (t : Bool) → inside s x y w h i ≡ t → cond t (v (i / s - y) (i % s - x)) a ≡ cond t (v′ (i / s - y) (i % s - x)) a
       go i a true q = let p = place s x y w h i q in e (i / s - y) (i % s - x) (p .0) (p .1)
       go i a false q = refl
-
-  each-each : (f g : ℕ → A → A) (l : List A) → ((i : ℕ) (a : A) → f i (g i a) ≡ g i (f i a)) → eachAt f (eachAt g l) ≡ eachAt g (eachAt f l)
-  unfolding eachAt
-  each-each f g [] e = refl
-  each-each f g (a ∷ l) e = λ j. e 0 a j ∷ each-each (λ i. f (suc i)) (λ i. g (suc i)) l (λ i. e (suc i)) j
-
-  cond-cond : (t u : Bool) (a b o : A) → (t && u) ≡ false → cond t a (cond u b o) ≡ cond u b (cond t a o)
-  cond-cond true true a b o e = absurd (true≢false e)
-  cond-cond true false a b o e = refl
-  cond-cond false u a b o e = refl
-
-  pub painted-apart : (s x y w h x′ y′ w′ h′ : ℕ) (v v′ : ℕ → ℕ → A) (l : List A) → ((i : ℕ) → (inside s x y w h i && inside s x′ y′ w′ h′ i) ≡ false)
-      → painted s x y w h v (painted s x′ y′ w′ h′ v′ l) ≡ painted s x′ y′ w′ h′ v′ (painted s x y w h v l)
-  unfolding painted
-  painted-apart s x y w h x′ y′ w′ h′ v v′ l e = each-each _ _ l (λ i a. cond-cond (inside s x y w h i) (inside s x′ y′ w′ h′ i) _ _ a (e i))
-
--- two rectangles with no place in common: `omega arith` proves the premise
-not-both : (t u : Bool) → (t ≡ true → u ≡ true → ⊥) → (t && u) ≡ false
-not-both true true h = absurd (h refl refl)
-not-both true false h = refl
-not-both false u h = refl
-
-pub apart : (s x y w h x′ y′ w′ h′ : ℕ) → ((c r : ℕ) → x ≤ c → c < x + w → y ≤ r → r < y + h → x′ ≤ c → c < x′ + w′ → y′ ≤ r → r < y′ + h′ → ⊥) → (i : ℕ) → (inside s x y w h i && inside s x′ y′ w′ h′ i) ≡ false
-unfolding inside
-apart s x y w h x′ y′ w′ h′ o i =
-    not-both (inside s x y w h i) (inside s x′ y′ w′ h′ i)
-    (λ p q.
-    let a = both-true _ _ p in
-    let b = both-true _ _ q in
-    let ax = within-true x w (i % s) (a .0) in
-    let ay = within-true y h (i / s) (a .1) in
-    let bx = within-true x′ w′ (i % s) (b .0) in
-    let by′ = within-true y′ h′ (i / s) (b .1) in
-    o (i % s) (i / s) (ax .0) (ax .1) (ay .0) (ay .1) (bx .0) (bx .1) (by′ .0) (by′ .1))
 
 -- the definition at numbers, by computation: a block of 2 × 2 at column 1 of row 1, in rows of 4
 worked : copied (0 ∷ 0 ∷ 0 ∷ 0 ∷ 0 ∷ 0 ∷ 0 ∷ 0 ∷ 0 ∷ 0 ∷ 0 ∷ 0 ∷ []) 4 1 1 2 2 (1 ∷ 2 ∷ 3 ∷ 4 ∷ 5 ∷ 6 ∷ 7 ∷ 8 ∷ 9 ∷ 10 ∷ 11 ∷ 12 ∷ []) ≡ 0 ∷ 0 ∷ 0 ∷ 0 ∷ 0 ∷ 6 ∷ 7 ∷ 0 ∷ 0 ∷ 10 ∷ 11 ∷ 0 ∷ []
