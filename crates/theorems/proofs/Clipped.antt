@@ -21,7 +21,7 @@ use Rattle.lists.specs.Until.{untilEnd}
 use Rattle.record.specs.Record.{noVectors, noLevels}
 use Rattle.record.specs.Items.{itemCoded, readLists, writeLists, readItems}
 use Rattle.record.specs.Write.{signedNumbers, itemBytes, itemsBytes, restBytes, recordBytes}
-use Rattle.questions.specs.Questions.{gridRight, planesRight, stateRight, referenceThere, callRight, askStart, askQuantiser, askPlace, askRest, askCall}
+use Rattle.questions.specs.Questions.{gridRight, planesRight, stateRight, referenceThere, callRight, askStart, askQuantiser, askPlace, placeIn, askRest, askCall}
 use Rattle.calls.specs.Calls.{callIn, callsIn, calls}
 use Rattle.reading.specs.Read.{predictorAt, moved, readVectors, quantiserIn, readQuantiser, recordOf, atFirst, readResidual, readCoded, readMacroblock}
 use Rattle.outcome.specs.State.{State}
@@ -69,11 +69,11 @@ pub record Left (bits : List ℕ) (last : Bool) : Type 0 where
   pub last-bit : getD (consumed bits 0 (clippedRun bits)) 56 false ≡ last
 
 left-less : Left less false
-unfolding clippedBytes one less more clippedRun ranList ran ranFrom ended withCall transcriptOf decoded outcomeOf askCall askStart askQuantiser askPlace askRest gridRight planesRight stateRight referenceThere callRight calls callsIn callIn untilEnd if_then_else_ floorZ satZ overZ clampZ minZ maxZ medianZ bitList codeFrom code signedOf signedCode groups number lowThen readNumber sent signedNumber patterns pattern quadrantCoded partitionWidth partitionHeight numMotionVectors offsetX offsetY precision cellAt nearAt leftOf aboveOf aboveLeftOf medianOf combined predicted heldIn predictor roundToSixths convertPredictor summed scaled storedPart clippedPart noVectors noLevels itemCoded readLists writeLists readItems signedNumbers itemBytes itemsBytes restBytes recordBytes predictorAt moved readVectors quantiserIn readQuantiser recordOf atFirst readResidual readCoded readMacroblock consumed
+unfolding clippedBytes one less more clippedRun ranList ran ranFrom ended withCall transcriptOf decoded outcomeOf askCall askStart askQuantiser askPlace placeIn askRest gridRight planesRight stateRight referenceThere callRight calls callsIn callIn untilEnd if_then_else_ floorZ satZ overZ clampZ minZ maxZ medianZ bitList codeFrom code signedOf signedCode groups number lowThen readNumber sent signedNumber patterns pattern quadrantCoded partitionWidth partitionHeight numMotionVectors offsetX offsetY precision cellAt nearAt leftOf aboveOf aboveLeftOf medianOf combined predicted heldIn predictor roundToSixths convertPredictor summed scaled storedPart clippedPart noVectors noLevels itemCoded readLists writeLists readItems signedNumbers itemBytes itemsBytes restBytes recordBytes predictorAt moved readVectors quantiserIn readQuantiser recordOf atFirst readResidual readCoded readMacroblock consumed
 left-less = record { bytes = refl; taken = refl; last-bit = refl }
 
 left-more : Left more true
-unfolding clippedBytes one less more clippedRun ranList ran ranFrom ended withCall transcriptOf decoded outcomeOf askCall askStart askQuantiser askPlace askRest gridRight planesRight stateRight referenceThere callRight calls callsIn callIn untilEnd if_then_else_ floorZ satZ overZ clampZ minZ maxZ medianZ bitList codeFrom code signedOf signedCode groups number lowThen readNumber sent signedNumber patterns pattern quadrantCoded partitionWidth partitionHeight numMotionVectors offsetX offsetY precision cellAt nearAt leftOf aboveOf aboveLeftOf medianOf combined predicted heldIn predictor roundToSixths convertPredictor summed scaled storedPart clippedPart noVectors noLevels itemCoded readLists writeLists readItems signedNumbers itemBytes itemsBytes restBytes recordBytes predictorAt moved readVectors quantiserIn readQuantiser recordOf atFirst readResidual readCoded readMacroblock consumed
+unfolding clippedBytes one less more clippedRun ranList ran ranFrom ended withCall transcriptOf decoded outcomeOf askCall askStart askQuantiser askPlace placeIn askRest gridRight planesRight stateRight referenceThere callRight calls callsIn callIn untilEnd if_then_else_ floorZ satZ overZ clampZ minZ maxZ medianZ bitList codeFrom code signedOf signedCode groups number lowThen readNumber sent signedNumber patterns pattern quadrantCoded partitionWidth partitionHeight numMotionVectors offsetX offsetY precision cellAt nearAt leftOf aboveOf aboveLeftOf medianOf combined predicted heldIn predictor roundToSixths convertPredictor summed scaled storedPart clippedPart noVectors noLevels itemCoded readLists writeLists readItems signedNumbers itemBytes itemsBytes restBytes recordBytes predictorAt moved readVectors quantiserIn readQuantiser recordOf atFirst readResidual readCoded readMacroblock consumed
 left-more = record { bytes = refl; taken = refl; last-bit = refl }
 
 pub clipped_runs : (transcriptOf (clippedRun less) ≡ transcriptOf (clippedRun more)) × (consumed less 0 (clippedRun less) ≡ consumed more 0 (clippedRun more) → ⊥)
