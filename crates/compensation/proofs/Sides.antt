@@ -1,7 +1,7 @@
 -- What the tests on sides and lengths tell.
 -- Assumes nothing.
 use mathlib.Core.Path.{_≡_}
-use mathlib.Core.Bool.{Bool, true, _&&_}
+use mathlib.Core.Bool.{true, _&&_}
 use Prim.Native.Nat.{ℕ, _*_, _≤_, _<_}
 use native.Mathlib.Nat.{mul-comm, mul-le-mul}
 use native.Mathlib.Omega.{arith}
@@ -9,14 +9,9 @@ use lib.Dec.{leb, eqb}
 use borrow.Author.Tests.{leb-true, eqb-true}
 use Rattle.picture.specs.Painted.{Inside}
 use Rattle.picture.proofs.Laws.{both-true}
-use Rattle.compensation.specs.Block.{Whole, Span, sidesFit}
-
-pub four-true : (a b c d : Bool) → (a && b && c && d) ≡ true → (a ≡ true) × (b ≡ true) × (c ≡ true) × (d ≡ true)
-four-true a b c d e =
-    let p = both-true (a && b && c) d e in
-    let q = both-true (a && b) c (p .0) in
-    let s = both-true a b (q .0) in
-    (s .0, s .1, q .1, p .1)
+use Rattle.questions.specs.Questions.{sidesFit}
+use Rattle.questions.proofs.Laws.{four-true}
+use Rattle.compensation.specs.Block.{Whole, Span}
 
 module _ (w h size : ℕ) where
   pub plane-whole : sidesFit 65536 w h size ≡ true → Whole w h size

@@ -1,15 +1,15 @@
 -- The compensated block: what is asked of it, and what it leaves.
 -- Assumes nothing.
 use mathlib.Core.Path.{_≡_}
-use mathlib.Core.Bool.{Bool, _&&_}
+use mathlib.Core.Bool.{_&&_}
 use mathlib.Core.List.{List}
 use Prim.Native.Nat.{ℕ, _*_, _<_, _≤_}
-use lib.Dec.{leb, eqb}
 use lib.IntN.{ℤ}
 use lib.ListN.{length}
 use Rattle.ints.specs.Z.{if_then_else_, towardZero}
 use Rattle.refusal.specs.declared.Refusal.the-variants.{StateLength, CallRange}
 use Rattle.picture.specs.Painted.{painted}
+use Rattle.questions.specs.Questions.{sidesFit}
 use Rattle.compensation.specs.Sample.{blockSample}
 use Rattle.compensation.specs.declared.svq3_mc.BlockAnswer.{BlockAnswer}
 use Rattle.compensation.specs.declared.svq3_mc.BlockAnswer.the-variants.{Done, Refused}
@@ -24,10 +24,6 @@ pub record Whole (width height size : ℕ) : Type 0 where
 pub record Span (w h : ℕ) : Type 0 where
   pub across : (0 < w) × (w ≤ 16)
   pub down : (0 < h) × (h ≤ 16)
-
--- 1 to `most` samples a side, and a length that matches
-unfoldable pub sidesFit : ℕ → ℕ → ℕ → ℕ → Bool
-sidesFit most w h size = leb 1 w && leb w most && leb 1 h && leb h most && eqb size (w * h)
 
 -- a plane of at most 65,536 a side: else 2; spans 1 to 16 and an output of just that size: else 5
 unfoldable pub blockAnswer : ℕ → ℕ → ℕ → ℕ → ℕ → ℕ → BlockAnswer

@@ -8,13 +8,14 @@ ghost use Rattle.compensation.specs.Formula.{formula};
 ghost use Rattle.compensation.specs.Sample.{blockSample};
 ghost use Rattle.compensation.specs.Kernel.{originOf, windowBlock};
 ghost use Rattle.compensation.specs.Taps.{Placed, TapsIn, liesIn};
-ghost use Rattle.compensation.specs.Block.{Whole, Span, sidesFit, blockAnswer, blockOut, halved};
+ghost use Rattle.compensation.specs.Block.{Whole, Span, blockAnswer, blockOut, halved};
 use crate::kernel::extra_of;
 use crate::tiles::interpolate;
 use crate::tiles::interpolate_pair;
 use crate::window::gather;
 use crate::window::origin;
 use ints::half_toward_zero;
+use questions::sides_fit;
 use refusal::Refusal;
 
 pub struct MvComponentSplit {
@@ -211,18 +212,6 @@ pub enum BlockAnswer {
     // the output holds the block
     Done,
     Refused(Refusal),
-}
-
-// 1 to `most` samples a side, and a length that matches.
-fn sides_fit(most: usize, w: usize, h: usize, size: usize) -> bool
-    requires { ⌜ most ≤ 65536 ⌝ }
-    ensures { λ r. ⌜ r ≡ sidesFit most w h size ⌝ }
-{
-    if (1 <= w) & (w <= most) & (1 <= h) & (h <= most) {
-        size == w * h
-    } else {
-        false
-    }
 }
 
 // The compensated block alone: 2 for the plane, 5 for the spans or the output's length; else `out` is the block.

@@ -1,11 +1,12 @@
 -- Questions one after another: what follows is asked where the ones before answered yes.
 -- Assumes nothing.
 use mathlib.Core.Path.{_≡_, refl, sym, ap, _∙_}
-use mathlib.Core.Bool.{Bool, true, false, _&&_, false≢true}
+use mathlib.Core.Bool.{Bool, true, false, _&&_}
 use Prim.Native.Nat.{ℕ, _*_, _≤_}
 use native.Mathlib.Nat.{mul-le-mul}
 use borrow.Author.Tests.{leb-true}
 use lib.Dec.{leb}
+use Rattle.picture.proofs.Laws.{both-true}
 use Rattle.refusal.specs.declared.Refusal.{Refusal}
 use Rattle.refusal.specs.declared.Refusal.the-variants.{GridSize, StateLength, MissingReference, ReferenceLength, QuantiserRange, BitPlace, TranscriptRoom}
 use Rattle.questions.specs.Questions.{thenAsk, gridRight, planesRight, stateRight, referenceThere, callRight, placeIn, askStart, askQuantiser, askPlace, askRest, askCall, askRun, askReplay}
@@ -30,9 +31,12 @@ start-onward cols rows l next = go (gridRight cols rows) (stateRight cols rows l
     go true true true false p q r s = refl
     go true true true true p q r s = refl
 
-pub both : (a b : Bool) → (a && b) ≡ true → (a ≡ true) × (b ≡ true)
-both true b e = (refl, e)
-both false b e = absurd (false≢true e)
+pub four-true : (a b c d : Bool) → (a && b && c && d) ≡ true → (a ≡ true) × (b ≡ true) × (c ≡ true) × (d ≡ true)
+four-true a b c d e =
+    let p = both-true (a && b && c) d e in
+    let q = both-true (a && b) c (p .0) in
+    let s = both-true a b (q .0) in
+    (s .0, s .1, q .1, p .1)
 
 -- a grid that passed question 1
 pub record Grid (cols rows : ℕ) : Type 0 where
@@ -44,10 +48,8 @@ pub record Grid (cols rows : ℕ) : Type 0 where
 pub grid : (cols rows : ℕ) → gridRight cols rows ≡ true → Grid cols rows
 unfolding gridRight
 grid cols rows e =
-    let a = both (leb 1 cols && leb cols 4096 && leb 1 rows) (leb rows 4096) e in
-    let b = both (leb 1 cols && leb cols 4096) (leb 1 rows) (a .0) in
-    let c = both (leb 1 cols) (leb cols 4096) (b .0) in
-    record { some-cols = leb-true 1 cols (c .0); most-cols = leb-true cols 4096 (c .1); some-rows = leb-true 1 rows (b .1); most-rows = leb-true rows 4096 (a .1) }
+    let s = four-true (leb 1 cols) (leb cols 4096) (leb 1 rows) (leb rows 4096) e in
+    record { some-cols = leb-true 1 cols (s .0); most-cols = leb-true cols 4096 (s .1); some-rows = leb-true 1 rows (s .2); most-rows = leb-true rows 4096 (s .3) }
 
 -- at most 2^24 macroblocks
 pub grid-size : (cols rows : ℕ) → gridRight cols rows ≡ true → cols * rows ≤ 16777216

@@ -13,7 +13,8 @@ use Rattle.questions.specs.declared.Call.{Call}
 use Rattle.questions.specs.declared.Lengths.{Lengths}
 use Rattle.questions.specs.declared.Asked.{Asked}
 use Rattle.questions.specs.declared.Asked.the-variants.{Yes, No}
-use Rattle.questions.proofs.Laws.{both, Grid, grid}
+use Rattle.picture.proofs.Laws.{both-true}
+use Rattle.questions.proofs.Laws.{Grid, grid}
 
 pub no-yes : {A : Type 0} {why : Refusal} → No why ≡ Yes → A
 no-yes e = absurd (let z : _≡_ {A = ℕ} 0 1 = cc in omega arith)
@@ -42,8 +43,8 @@ started cols rows l next e =
 pub planes-sized : (cols rows y cb cr : ℕ) → planesRight cols rows y cb cr ≡ true → Sized cols rows y cb cr
 unfolding planesRight
 planes-sized cols rows y cb cr e =
-    let a = both (eqb y (lumaLength cols rows) && eqb cb (chromaLength cols rows)) (eqb cr (chromaLength cols rows)) e in
-    let b = both (eqb y (lumaLength cols rows)) (eqb cb (chromaLength cols rows)) (a .0) in
+    let a = both-true (eqb y (lumaLength cols rows) && eqb cb (chromaLength cols rows)) (eqb cr (chromaLength cols rows)) e in
+    let b = both-true (eqb y (lumaLength cols rows)) (eqb cb (chromaLength cols rows)) (a .0) in
     record { luma-right = eqb-true _ _ (b .0); cb-right = eqb-true _ _ (b .1); cr-right = eqb-true _ _ (a .1) }
 
 -- 2
@@ -55,8 +56,8 @@ pub record StateSized (cols rows : ℕ) (l : Lengths) : Type 0 where
 pub state-sized : (cols rows : ℕ) (l : Lengths) → stateRight cols rows l ≡ true → StateSized cols rows l
 unfolding stateRight
 state-sized cols rows l e =
-    let a = both (planesRight cols rows (l .y) (l .cb) (l .cr) && eqb (l .mv) (2 * cellCount cols rows)) (eqb (l .marks) (cellCount cols rows)) e in
-    let b = both (planesRight cols rows (l .y) (l .cb) (l .cr)) (eqb (l .mv) (2 * cellCount cols rows)) (a .0) in
+    let a = both-true (planesRight cols rows (l .y) (l .cb) (l .cr) && eqb (l .mv) (2 * cellCount cols rows)) (eqb (l .marks) (cellCount cols rows)) e in
+    let b = both-true (planesRight cols rows (l .y) (l .cb) (l .cr)) (eqb (l .mv) (2 * cellCount cols rows)) (a .0) in
     record { picture = planes-sized cols rows (l .y) (l .cb) (l .cr) (b .0); mv = eqb-true _ _ (b .1); marks = eqb-true _ _ (a .1) }
 
 -- 5 to 8 passed
@@ -75,9 +76,9 @@ rest-yes cols rows call quantiser size place free e =
     let q = ask-yes (leb quantiser 31) _ _ (c .1) in
     let p = ask-yes (ltb size (2 ^ 61) && leb place (8 * size)) _ _ (q .1) in
     let f = ask-yes (leb 2089 free) _ _ (p .1) in
-    let x = both (leb (call .mode) 7 && ltb (call .column) cols) (ltb (call .row) rows) (c .0) in
-    let y = both (leb (call .mode) 7) (ltb (call .column) cols) (x .0) in
-    let z = both (ltb size (2 ^ 61)) (leb place (8 * size)) (p .0) in
+    let x = both-true (leb (call .mode) 7 && ltb (call .column) cols) (ltb (call .row) rows) (c .0) in
+    let y = both-true (leb (call .mode) 7) (ltb (call .column) cols) (x .0) in
+    let z = both-true (ltb size (2 ^ 61)) (leb place (8 * size)) (p .0) in
     record {
       mode = leb-true (call .mode) 7 (y .0);
       column = ltb-true (call .column) cols (y .1);

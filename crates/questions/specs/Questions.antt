@@ -75,3 +75,7 @@ askRun cols rows l quantiser size place = askStart cols rows l (askQuantiser qua
 -- 1 to 4 and 6: of a replay
 unfoldable pub askReplay : ℕ → ℕ → Lengths → ℕ → Asked
 askReplay cols rows l quantiser = askStart cols rows l (askQuantiser quantiser Yes)
+
+-- of a plane (2), and of a block and its output (5), where a compensated block alone is asked for: 1 to `most` samples a side, and a length that matches
+unfoldable pub sidesFit : ℕ → ℕ → ℕ → ℕ → Bool
+sidesFit most w h size = leb 1 w && leb w most && leb 1 h && leb h most && eqb size (w * h)

@@ -1,7 +1,7 @@
 // The questions before a macroblock: on numbers alone, the lengths of the slices among them.
 ghost use mathlib.Core.Path.{_≡_};
 ghost use mathlib.Core.Bool.{true};
-ghost use Rattle.questions.specs.Questions.{gridRight, planesRight, stateRight, referenceThere, callRight, askStart, askPlace, askRest, askCall, askRun, askReplay};
+ghost use Rattle.questions.specs.Questions.{gridRight, planesRight, stateRight, referenceThere, callRight, askStart, askPlace, askRest, askCall, askRun, askReplay, sidesFit};
 use refusal::Refusal;
 
 pub struct Call {
@@ -163,5 +163,17 @@ pub fn ask_call(
     match ask_start(cols, rows, l) {
         Asked::Yes => ask_rest(cols, rows, call, quantiser, size, place, free),
         Asked::No(why) => Asked::No(why),
+    }
+}
+
+// 1 to `most` samples a side, and a length that matches.
+pub fn sides_fit(most: usize, w: usize, h: usize, size: usize) -> bool
+    requires { ⌜ most ≤ 65536 ⌝ }
+    ensures { λ r. ⌜ r ≡ sidesFit most w h size ⌝ }
+{
+    if (1 <= w) & (w <= most) & (1 <= h) & (h <= most) {
+        size == w * h
+    } else {
+        false
     }
 }

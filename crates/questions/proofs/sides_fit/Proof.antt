@@ -1,13 +1,13 @@
--- `compensation::svq3_mc::sides_fit` meets its contract: the product fits where the sides do.
+-- `questions::sides_fit` meets its contract: the product fits where the sides do.
 use borrow.Author.Tests.{leb-true}
 use lib.Dec.{leb}
 use Prim.Native.Nat.{_≤_}
 use native.Mathlib.Nat.{mul-le-mul}
 use native.Mathlib.Omega.{arith}
-use Rattle.compensation.specs.Block.{sidesFit}
-use Rattle.compensation.proofs.Sides.{four-true}
-use Rattle.compensation.proofs.svq3_mc.sides_fit.Statement.{statement}
-use Rattle.compensation.proofs.svq3_mc.sides_fit.Tie as tie
+use Rattle.questions.specs.Questions.{sidesFit}
+use Rattle.questions.proofs.Laws.{four-true}
+use Rattle.questions.proofs.sides_fit.Statement.{statement}
+use Rattle.questions.proofs.sides_fit.Tie as tie
 
 mul-result : tie.Need-mul-result
 mul-result c =
