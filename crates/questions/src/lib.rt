@@ -1,6 +1,7 @@
 // The questions before a macroblock: on numbers alone, the lengths of the slices among them.
 ghost use mathlib.Core.Path.{_≡_};
 ghost use mathlib.Core.Bool.{true};
+ghost use Prim.Native.Nat.{_≤_};
 ghost use Rattle.questions.specs.Questions.{gridRight, planesRight, stateRight, referenceThere, callRight, askStart, askPlace, askRest, askCall, askRun, askReplay, sidesFit};
 use refusal::Refusal;
 
