@@ -21,7 +21,7 @@ echo "The gate: every crate proved from nothing, every must-fail edit tried, eve
 {
     status=0
     # rt starts its checks in batches and waits for the last of each: more of them than processors leaves none idle.
-    RT_JOBS=${RT_JOBS:-4} rt ci 2>&1 || status=$?
+    RT_JOBS=${RT_JOBS:-8} rt ci 2>&1 || status=$?
     echo "$status" > "$kept/status"
 } | tools/gate/progress.sh "$kept/printed"
 status=$(cat "$kept/status")

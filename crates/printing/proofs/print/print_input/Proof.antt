@@ -36,9 +36,9 @@ pub print-input-spec : {M : Type 1} → statement M
 print-input-spec =
     tie.close
     (tie.spec
-    (λ c κs. search needs)
+    (λ c κs. tt)
     (λ c. search needs)
-    (λ c κs. search needs)
+    (λ c κs. tt)
     (λ c. search needs)
     (λ c. ends-behind c)
     (λ c. omega (arith, ends-behind c, ends-within c))
