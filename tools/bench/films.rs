@@ -130,6 +130,35 @@ fn measured(film: &Film) -> Row {
     Row { reference: median(theirs), run: median(ours), replay: median(again), copy: median(copied), replay_by_run }
 }
 
+/// Runs of the heavy film at 45 x 36 by the library alone; the macroblocks of one.
+pub fn ours_alone(rounds: usize) -> usize {
+    let film = film(Kind::Heavy, 45, 36);
+    let Film { run, list } = &film;
+    let start = Start::of(run, room(&film));
+    let mut state = start.clone();
+    for _ in 0..rounds {
+        set_to(&mut state, &start);
+        assert_eq!(state.run(list, &run.bits, run.place, COUNTS).code, 0, "the run is refused");
+    }
+    run.calls.len()
+}
+
+/// The same by the Rust alone.
+pub fn rust_alone(rounds: usize) -> usize {
+    let Film { run, .. } = &film(Kind::Heavy, 45, 36);
+    let header = access_header(run.columns, run.rows, run.half, run.third);
+    let mut access = Access::new(&header, run.reference.as_ref()).expect("a grid");
+    access.start(run.delta_enable, run.quantiser, run.picture.clone(), run.vectors.clone(), run.marks.clone());
+    for _ in 0..rounds {
+        access.start_again(run.quantiser, &run.picture, &run.vectors, &run.marks);
+        let mut reader = BitReader::new(&run.bits);
+        for call in &run.calls {
+            access.decode_inter_mb(&mut reader, call.column, call.row, call.mode).expect("a sound film");
+        }
+    }
+    run.calls.len()
+}
+
 /// The mean of each round and its counterpart.
 fn figures(rounds: Vec<f64>) -> Vec<f64> {
     let (first, other) = rounds.split_at(ROUNDS);

@@ -36,6 +36,10 @@ mod timing;
 use timing::Row;
 
 fn main() {
+    let words: Vec<String> = std::env::args().skip(1).collect();
+    if !words.is_empty() {
+        return repeat(&words);
+    }
     let mut low = Vec::new();
     println!("{:<44} {:>10} {:>10} {:>7}", "one macroblock", "Rust, ns", "ours, ns", "times");
     let mut show = |bar: f64, row: Row| {
@@ -50,5 +54,18 @@ fn main() {
     if !low.is_empty() {
         println!("{}", low.join("\n"));
         std::process::exit(1);
+    }
+}
+
+/// `ours N` or `rust N`: N runs of the heavy film at 45 x 36 by one side alone, for a count of instructions. Prints the macroblocks of a run.
+fn repeat(words: &[String]) {
+    let rounds = words.get(1).and_then(|word| word.parse().ok());
+    match (words[0].as_str(), rounds) {
+        ("ours", Some(rounds)) => println!("{}", films::ours_alone(rounds)),
+        ("rust", Some(rounds)) => println!("{}", films::rust_alone(rounds)),
+        _ => {
+            eprintln!("bench [ours N | rust N]");
+            std::process::exit(2);
+        }
     }
 }
