@@ -16,6 +16,6 @@ if [ "$(uname -m)" != x86_64 ]; then
 fi
 
 mkdir -p "$out"
-"$root/tools/gate/staticlib.sh" acceptance
-rustc --edition 2024 -O --extern published="$published" -L "native=$root/target/staticlib" -l static=acceptance \
+"$root/tools/gate/staticlib.sh" desk
+rustc --edition 2024 -O --extern published="$published" -L "native=$root/target/staticlib" -l static=desk \
     -o "$out/acceptance" "$here/src/main.rs"

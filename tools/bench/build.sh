@@ -18,7 +18,6 @@ if [ "$(uname -m)" != x86_64 ]; then
 fi
 
 mkdir -p "$out"
-"$root/tools/gate/staticlib.sh" desk timed acceptance
-rustc --edition 2024 -O --extern published="$published" -L "native=$root/target/staticlib" -l static=desk -l static=timed \
-    -l static=acceptance \
+"$root/tools/gate/staticlib.sh" desk
+rustc --edition 2024 -O --extern published="$published" -L "native=$root/target/staticlib" -l static=desk \
     -o "$out/bench" "$here/main.rs"

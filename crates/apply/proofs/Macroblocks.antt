@@ -1,16 +1,16 @@
--- What a record does to a plane, by its mode; and what its range lets the parts of it require.
+-- What a record does to a plane, by its mode.
 -- Assumes nothing.
 use mathlib.Core.Path.{_≡_, refl}
 use mathlib.Core.Logic.{_≢_}
 use mathlib.Core.List.{List}
-use Prim.Native.Nat.{ℕ, _*_, _≤_}
+use Prim.Native.Nat.{ℕ, _*_, _≤_, _<_}
 use native.Mathlib.Omega.{arith}
 use borrow.Author.Tests.{eq-eqb, ne-eqb}
 use Rattle.ints.specs.Z.{if_then_else_}
 use Rattle.picture.specs.Picture.{copied, Within}
 use Rattle.vectors.specs.Modes.{numMotionVectors}
 use Rattle.record.specs.Record.{Record, skipRecord}
-use Rattle.record.specs.Range.{RecordRange, CodedRange}
+use Rattle.record.specs.Range.{RecordRange}
 use Rattle.reading.specs.Bits.{callOf}
 use Rattle.moving.specs.Moved.{movedUpTo}
 use Rattle.adding.specs.Blocks.{lumaUpTo, chromaAdded}
@@ -33,13 +33,13 @@ module _ (cols rows : ℕ) (ref : List ℕ) (r : Record) (pic : List ℕ) where
   unfolding appliedChroma if_then_else_
   coded-chroma plane e = rw (ne-eqb (r .head .mode) 0 e)
 
--- a record's place, and what one that is no skip holds
-module _ {cols rows : ℕ} {r : Record} (range : RecordRange cols rows r) where
-  pub place-within : cols ≤ 4096 → rows ≤ 4096 → Within cols rows (r .head .column) (r .head .row)
-  place-within w h = record { across = range .column; down = range .row; wide = w; high = h }
+-- a record's place
+pub place-within : {cols rows : ℕ} {r : Record} → RecordRange cols rows r → cols ≤ 4096 → rows ≤ 4096 → Within cols rows (r .head .column) (r .head .row)
+place-within range w h = record { across = range .column; down = range .row; wide = w; high = h }
 
-  pub coded-range : r .head .mode ≢ 0 → CodedRange r
-  coded-range e = range .coded (omega arith)
+-- a mode that is no skip
+pub no-skip : (mode : ℕ) → 0 < mode → mode ≢ 0
+no-skip mode h e = omega arith
 
 -- a skip, by its place
 pub skipped-luma : (cols rows : ℕ) (ref : List ℕ) (column row : ℕ) (pic : List ℕ) → appliedLuma cols rows ref (skipRecord column row) pic ≡ copied pic (16 * cols) (16 * column) (16 * row) 16 16 ref

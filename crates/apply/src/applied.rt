@@ -1,4 +1,4 @@
-// A record applied: compensation and residual to each plane, vectors and marks to the cells.
+// A record applied to the planes, the vectors and the marks.
 ghost use mathlib.Core.Path.{_≡_};
 ghost use Prim.Native.Nat.{_*_, _<_, _≤_};
 ghost use lib.ListN.{length};
@@ -7,17 +7,17 @@ ghost use Rattle.predict.specs.Predict.{fieldOf};
 ghost use Rattle.record.specs.Record.{recordOf, skipRecord};
 ghost use Rattle.record.specs.Range.{RecordRange};
 ghost use Rattle.apply.specs.Apply.{appliedLuma, appliedChroma, appliedField};
-use crate::svq3_picture::apply_field;
+use crate::svq3_picture::store_partitions;
 use adding::svq3_recon::add_chroma;
 use adding::svq3_recon::add_luma;
 use moving::svq3_frame::compensate_chroma;
 use moving::svq3_frame::compensate_luma;
-use picture::rows::copy_block;
 use picture::svq3_picture::copy_macroblock_from;
 use predict::svq3_frame::mark_macroblock;
 use questions::Call;
 use record::Head;
 
+// Compensation, then the residual.
 pub fn apply_luma(
     pic: &mut [u8],
     reference: &[u8],
@@ -27,25 +27,19 @@ pub fn apply_luma(
     rows: usize,
     head: Head,
 )
-    requires { ⌜ (cols ≤ 4096) × (rows ≤ 4096) × RecordRange cols rows (recordOf head (now vectors) (now levels)) × (length (now vectors) ≡ 32) × (length (now levels) ≡ 392) ⌝ }
+    requires { ⌜ (cols ≤ 4096) × (rows ≤ 4096) × RecordRange cols rows (recordOf head (now vectors) (now levels)) × (0 < head .mode) × (length (now vectors) ≡ 32) × (length (now levels) ≡ 392) ⌝ }
     requires { ⌜ (length (now pic) ≡ lumaLength cols rows) × (length (now reference) ≡ lumaLength cols rows) ⌝ }
     ensures { λ _. ⌜ now (pic .exit) ≡ appliedLuma cols rows (now (reference .entry)) (recordOf head (now (vectors .entry)) (now (levels .entry))) (now (pic .entry)) ⌝ }
 {
     let column = head.column;
     let row = head.row;
     let mode = head.mode;
-    if mode == 0 {
-        let x = 16 * (column as usize);
-        let y = 16 * (row as usize);
-        copy_block(pic, 16 * cols, x, y, 16, 16, reference);
-    } else {
-        let call = Call { column, row, mode };
-        compensate_luma(pic, reference, vectors, cols, rows, call);
-        add_luma(pic, levels, cols, rows, head);
-    }
+    let call = Call { column, row, mode };
+    compensate_luma(pic, reference, vectors, cols, rows, call);
+    add_luma(pic, levels, cols, rows, head);
 }
 
-// Both chroma planes.
+// The same of both chroma planes.
 pub fn apply_chroma(
     cb: &mut [u8],
     cr: &mut [u8],
@@ -57,7 +51,7 @@ pub fn apply_chroma(
     rows: usize,
     head: Head,
 )
-    requires { ⌜ (cols ≤ 4096) × (rows ≤ 4096) × RecordRange cols rows (recordOf head (now vectors) (now levels)) × (length (now vectors) ≡ 32) × (length (now levels) ≡ 392) ⌝ }
+    requires { ⌜ (cols ≤ 4096) × (rows ≤ 4096) × RecordRange cols rows (recordOf head (now vectors) (now levels)) × (0 < head .mode) × (length (now vectors) ≡ 32) × (length (now levels) ≡ 392) ⌝ }
     requires { ⌜ (length (now cb) ≡ chromaLength cols rows) × (length (now rcb) ≡ chromaLength cols rows) × (length (now cr) ≡ chromaLength cols rows) × (length (now rcr) ≡ chromaLength cols rows) ⌝ }
     ensures { λ _. ⌜ now (cb .exit) ≡ appliedChroma 0 cols rows (now (rcb .entry)) (recordOf head (now (vectors .entry)) (now (levels .entry))) (now (cb .entry)) ⌝ }
     ensures { λ _. ⌜ now (cr .exit) ≡ appliedChroma 1 cols rows (now (rcr .entry)) (recordOf head (now (vectors .entry)) (now (levels .entry))) (now (cr .entry)) ⌝ }
@@ -65,21 +59,14 @@ pub fn apply_chroma(
     let column = head.column;
     let row = head.row;
     let mode = head.mode;
-    if mode == 0 {
-        let x = 8 * (column as usize);
-        let y = 8 * (row as usize);
-        copy_block(cb, 8 * cols, x, y, 8, 8, rcb);
-        copy_block(cr, 8 * cols, x, y, 8, 8, rcr);
-    } else {
-        let call = Call { column, row, mode };
-        compensate_chroma(cb, cr, rcb, rcr, vectors, cols, rows, call);
-        add_chroma(cb, levels, cols, rows, head, 0);
-        add_chroma(cr, levels, cols, rows, head, 1);
-    }
+    let call = Call { column, row, mode };
+    compensate_chroma(cb, cr, rcb, rcr, vectors, cols, rows, call);
+    add_chroma(cb, levels, cols, rows, head, 0);
+    add_chroma(cr, levels, cols, rows, head, 1);
 }
 
-// The three planes, the vectors and the marks.
-pub fn apply_record(
+// A record that is no skip: the three planes, the vectors and the marks.
+pub fn apply_coded(
     y: &mut [u8],
     cb: &mut [u8],
     cr: &mut [u8],
@@ -94,7 +81,7 @@ pub fn apply_record(
     rows: usize,
     head: Head,
 )
-    requires { ⌜ (cols ≤ 4096) × (rows ≤ 4096) × RecordRange cols rows (recordOf head (now vectors) (now levels)) × (length (now vectors) ≡ 32) × (length (now levels) ≡ 392) ⌝ }
+    requires { ⌜ (cols ≤ 4096) × (rows ≤ 4096) × RecordRange cols rows (recordOf head (now vectors) (now levels)) × (0 < head .mode) × (length (now vectors) ≡ 32) × (length (now levels) ≡ 392) ⌝ }
     requires { ⌜ Sized cols rows (length (now y)) (length (now cb)) (length (now cr)) × Sized cols rows (length (now ry)) (length (now rcb)) (length (now rcr)) × (length (now mv) ≡ 2 * cellCount cols rows) × (length (now marks) ≡ cellCount cols rows) ⌝ }
     ensures { λ _. ⌜ now (y .exit) ≡ appliedLuma cols rows (now (ry .entry)) (recordOf head (now (vectors .entry)) (now (levels .entry))) (now (y .entry)) ⌝ }
     ensures { λ _. ⌜ now (cb .exit) ≡ appliedChroma 0 cols rows (now (rcb .entry)) (recordOf head (now (vectors .entry)) (now (levels .entry))) (now (cb .entry)) ⌝ }
@@ -104,10 +91,13 @@ pub fn apply_record(
 {
     apply_luma(y, ry, vectors, levels, cols, rows, head);
     apply_chroma(cb, cr, rcb, rcr, vectors, levels, cols, rows, head);
-    apply_field(mv, marks, vectors, cols, rows, head);
+    let column = head.column;
+    let row = head.row;
+    let mode = head.mode;
+    store_partitions(mv, marks, vectors, cols, rows, Call { column, row, mode });
 }
 
-// The same of a skipped macroblock: its three blocks are copied.
+// A skip: its three blocks are copied.
 pub fn apply_skip(
     y: &mut [u8],
     cb: &mut [u8],

@@ -1,20 +1,15 @@
 // The vectors and the marks of a macroblock.
 ghost use mathlib.Core.Path.{_≡_};
-ghost use mathlib.Core.List.{List};
 ghost use Prim.Native.Nat.{ℕ, _+_, _*_, _/_, _%_, _^_, _<_, _≤_};
-ghost use lib.IntN.{ℤ};
 ghost use lib.ListN.{length};
 ghost use Rattle.picture.specs.Picture.{cellCount, Within};
 ghost use Rattle.picture.specs.Rows.{row};
 ghost use Rattle.vectors.specs.Modes.{numMotionVectors};
 ghost use Rattle.predict.specs.Predict.{fieldOf};
-ghost use Rattle.record.specs.Record.{recordOf};
-ghost use Rattle.apply.specs.Apply.{storedUpTo, appliedField};
+ghost use Rattle.apply.specs.Apply.{storedUpTo};
 ghost use Rattle.apply.specs.Cells.{ownerOf, ownNumber};
-use predict::svq3_frame::mark_macroblock;
 use predict::svq3_frame::mark_row;
 use questions::Call;
-use record::Head;
 
 // The partition of each cell of a macroblock, a hex digit each, by rows, the first the lowest.
 fn owners(mode: u32) -> u64
@@ -49,7 +44,7 @@ fn store_row(mv: &mut [i32], vectors: &[i32], at: usize, four: u64)
 }
 
 // The vectors of all partitions, marked 1, in each of their cells.
-fn store_partitions(
+pub fn store_partitions(
     mv: &mut [i32],
     marks: &mut [u8],
     vectors: &[i32],
@@ -72,29 +67,5 @@ fn store_partitions(
         store_row(mv, vectors, 2 * at, whose >> (16 * r));
         mark_row(marks, at, 4);
         r += 1;
-    }
-}
-
-// Of a record. Its levels have no part in it.
-pub fn apply_field(
-    mv: &mut [i32],
-    marks: &mut [u8],
-    vectors: &[i32],
-    cols: usize,
-    rows: usize,
-    head: Head,
-)
-    requires { ⌜ Within cols rows (head .column) (head .row) × (head .mode ≤ 7) ⌝ }
-    requires { ⌜ (length (now mv) ≡ 2 * cellCount cols rows) × (length (now marks) ≡ cellCount cols rows) × (length (now vectors) ≡ 32) ⌝ }
-    ensures { λ _. ⌜ ((ls : List ℤ) → now (mv .exit) ≡ appliedField (recordOf head (now (vectors .entry)) ls) (fieldOf cols rows (now (mv .entry)) (now (marks .entry))) .mv) ⌝ }
-    ensures { λ _. ⌜ ((ls : List ℤ) → now (marks .exit) ≡ appliedField (recordOf head (now (vectors .entry)) ls) (fieldOf cols rows (now (mv .entry)) (now (marks .entry))) .marks) ⌝ }
-{
-    let column = head.column;
-    let row = head.row;
-    let mode = head.mode;
-    if mode == 0 {
-        mark_macroblock(mv, marks, cols, column as usize, row as usize);
-    } else {
-        store_partitions(mv, marks, vectors, cols, rows, Call { column, row, mode });
     }
 }

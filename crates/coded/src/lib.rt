@@ -1,20 +1,19 @@
 // A macroblock that is no skip.
 ghost use mathlib.Core.Path.{_≡_};
-ghost use Prim.Native.Nat.{_-_};
+ghost use Prim.Native.Nat.{_-_, _<_};
 ghost use lib.ListN.{length};
 ghost use Rattle.questions.specs.Questions.{askCall};
 ghost use Rattle.outcome.specs.State.{lengthsOf};
 ghost use Rattle.outcome.specs.Decode.{decoded};
 ghost use Rattle.outcome.specs.Entry.{stateOf, quantiserBy, left};
-use apply::applied::apply_record;
+use apply::applied::apply_coded;
 use outcome::Frame;
 use outcome::MbAnswer;
-use outcome::quantiser_after;
 use questions::Asked;
 use questions::Call;
 use reading::svq3_frame::ReadAnswer;
-use reading::svq3_frame::read_macroblock;
-use transcript::write::put_record;
+use reading::svq3_frame::read_coded;
+use transcript::write::put_coded;
 
 // Read, then written and applied.
 pub fn decode_coded(
@@ -35,6 +34,7 @@ pub fn decode_coded(
     fill: usize,
 ) -> MbAnswer
     requires { ⌜ askCall (frame .cols) (frame .rows) (lengthsOf (stateOf frame quantiser (now ry) (now rcb) (now rcr) (now y) (now cb) (now cr) (now mv) (now marks))) call quantiser (length (now bits)) place (length (now transcript) - fill) ≡ Asked.Yes ⌝ }
+    requires { ⌜ 0 < call .mode ⌝ }
     ensures { λ r. ⌜ left r (stateOf frame (quantiserBy quantiser r) (now (ry .entry)) (now (rcb .entry)) (now (rcr .entry)) (now (y .exit)) (now (cb .exit)) (now (cr .exit)) (now (mv .exit)) (now (marks .exit))) (now (transcript .exit)) ≡ decoded (stateOf frame quantiser (now (ry .entry)) (now (rcb .entry)) (now (rcr .entry)) (now (y .entry)) (now (cb .entry)) (now (cr .entry)) (now (mv .entry)) (now (marks .entry))) call (now (bits .entry)) place (now (transcript .entry)) fill ⌝ }
 {
     let mut vectors = [0i32; 32];
@@ -42,7 +42,7 @@ pub fn decode_coded(
     let cols = frame.cols as usize;
     let rows = frame.rows as usize;
     let flags = frame.flags;
-    match read_macroblock(
+    match read_coded(
         &mut vectors,
         &mut levels,
         mv,
@@ -56,8 +56,8 @@ pub fn decode_coded(
         quantiser,
     ) {
         ReadAnswer::Read(head, next) => {
-            let filled = put_record(transcript, &vectors, &levels, fill, head);
-            apply_record(
+            let filled = put_coded(transcript, &vectors, &levels, fill, head);
+            apply_coded(
                 y,
                 cb,
                 cr,
@@ -72,7 +72,7 @@ pub fn decode_coded(
                 rows,
                 head,
             );
-            MbAnswer::Accepted(next, quantiser_after(quantiser, head), filled, head.clipped)
+            MbAnswer::Accepted(next, head.quantiser, filled, head.clipped)
         }
         ReadAnswer::Refused(why) => MbAnswer::Refused(why),
     }

@@ -40,7 +40,7 @@ module _ (below means wa wb wc wd : ℕ) where
     unfolding mixedAt fourAt
     by-rows f =
         record {
-          even = record { fair = record { sum = sum; means = once }; reach = omega arith };
+          square = record { weights = record { sum = sum; means = once }; reach = omega arith };
           is = λ src i. rw (← add-assoc i 1 below) (f _ _ _ _);
         }
 
@@ -48,7 +48,7 @@ module _ (below means wa wb wc wd : ℕ) where
     unfolding mixedAt fourAt
     by-columns f =
         record {
-          even = record { fair = record { sum = sum; means = once }; reach = omega arith };
+          square = record { weights = record { sum = sum; means = once }; reach = omega arith };
           is = λ src i. let corner : i + (below + 1) ≡ i + 1 + below = omega arith in rw corner (f _ _ _ _);
         }
 
@@ -60,7 +60,7 @@ said-as : (below : ℕ) {px py px′ py′ : ℕ} → mixSaid below py (mixCode 
 unfolding fourAt
 said-as below {px} {py} e f m =
     let n = subst (MixFor px py below) e m in
-    record { even = n .even; is = λ src i. n .is src i ∙ f _ _ _ _ }
+    record { square = n .square; is = λ src i. n .is src i ∙ f _ _ _ _ }
 
 phases : (P : ℕ → Type 0) → (P 1 → P 2) → (P 4 → P 5) → P 0 → P 1 → P 3 → P 4 → (f : ℕ) → f < 6 → P f
 phases P low high a b c d zero h = a

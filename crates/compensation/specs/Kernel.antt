@@ -17,7 +17,7 @@ use Rattle.compensation.specs.declared.kernel.Mix.{Mix}
 unfoldable pub weighed : ℕ → ℕ → ℕ → ℕ → ℕ → ℕ → ℕ → ℕ → ℕ
 weighed wa wb wc wd a b c d = (wa * a + wb * b + wc * c + wd * d + 6) / 12
 
--- a tap by its pair's other one. With m = 1 both, so raised, sum up to twice their mean; with m = 0 each is itself
+-- with m = 1 an even a beside an odd b gets 1 more: so two taps, each raised by the other, sum up to twice their mean, rounded up; with m = 0 a itself
 unfoldable pub raised : ℕ → ℕ → ℕ → ℕ
 raised m a b = a + m * (b % 2 - a % 2)
 
@@ -37,14 +37,14 @@ mixedRow m src from c = mixedAt m src (from + c)
 unfoldable pub mixedBlock : Mix → List ℕ → ℕ → ℕ → ℕ → ℕ → ℕ
 mixedBlock m src stride from r = mixedRow m src (from + r * stride)
 
--- weights of the sum 12, by means or not
-pub record Fair (m : Mix) : Type 0 where
+-- weights of the sum 12; means is 0 or 1
+pub record SumsTo12 (m : Mix) : Type 0 where
   pub sum : m .wa + m .wb + m .wc + m .wd ≡ 12
   pub means : m .means ≤ 1
 
--- such weights, of taps the last of which is the one below to the right
-pub record Even (below : ℕ) (m : Mix) : Type 0 where
-  pub fair : Fair m
+-- such weights, of the four taps of a square: the last is one row below the first and one column to its right
+pub record FromSquare (below : ℕ) (m : Mix) : Type 0 where
+  pub weights : SumsTo12 m
   pub reach : m .beside + m .second ≡ below + 1
 
 -- how far a phase goes: 0 not at all, 1 a third of the way, 2 half of it, 3 two thirds
@@ -78,7 +78,7 @@ fourAt f src u v i = f (getD src i 0) (getD src (i + u) 0) (getD src (i + v) 0) 
 
 -- the mix of two phases
 pub record MixFor (px py below : ℕ) (m : Mix) : Type 0 where
-  pub even : Even below m
+  pub square : FromSquare below m
   pub is : (src : List ℕ) (i : ℕ) → mixedAt m src i ≡ fourAt (formula px py) src 1 below i
 
 -- at column c of the row that starts at `from`

@@ -6,7 +6,7 @@ ghost use Rattle.ints.specs.Z.{if_then_else_};
 ghost use Rattle.picture.specs.Painted.{Inside, painted};
 ghost use Rattle.picture.specs.Rows.{row};
 ghost use Rattle.compensation.specs.Formula.{formula};
-ghost use Rattle.compensation.specs.Kernel.{weighed, raised, mixedTaps, mixedRow, mixedBlock, Fair, Even, MixFor, way, mixes, mixCode, fourBlock, extra};
+ghost use Rattle.compensation.specs.Kernel.{weighed, raised, mixedTaps, mixedRow, mixedBlock, SumsTo12, FromSquare, MixFor, way, mixes, mixCode, fourBlock, extra};
 ghost use Rattle.compensation.specs.Block.{Span};
 use picture::rows::store_row;
 
@@ -31,7 +31,8 @@ fn weigh(a: u8, b: u8, c: u8, d: u8, wa: u16, wb: u16, wc: u16, wd: u16) -> u8
     ((wa * (a as u16) + wb * (b as u16) + wc * (c as u16) + wd * (d as u16) + 6) / 12) as u8
 }
 
-// With m = 1 two taps that are raised by each other sum up to twice their mean, which is rounded up; with m = 0 they stay as they are.
+// With m = 1: an even a beside an odd b gets 1 more. Of two taps of which just one is odd, so raised by each other, the even one gets it:
+// their sum is then even, and half of it is their mean, rounded up. With m = 0: a as it is.
 fn raise(m: u8, a: u8, b: u8) -> u8
     requires { ⌜ m ≤ 1 ⌝ }
     ensures { λ r. ⌜ r ≡ raised m a b ⌝ }
@@ -40,7 +41,7 @@ fn raise(m: u8, a: u8, b: u8) -> u8
 }
 
 pub fn mix_taps(mix: Mix, a: u8, b: u8, c: u8, d: u8) -> u8
-    requires { ⌜ Fair mix ⌝ }
+    requires { ⌜ SumsTo12 mix ⌝ }
     ensures { λ r. ⌜ r ≡ mixedTaps mix a b c d ⌝ }
 {
     let m = mix.means;
@@ -57,7 +58,7 @@ pub fn mix_taps(mix: Mix, a: u8, b: u8, c: u8, d: u8) -> u8
 }
 
 fn mix_row(dst: &mut [u8], src: &[u8], to: usize, from: usize, n: usize, mix: Mix)
-    requires { ⌜ Fair mix × (to + n ≤ length (now dst)) × (from + n + (mix .beside + mix .second) ≤ length (now src)) ⌝ }
+    requires { ⌜ SumsTo12 mix × (to + n ≤ length (now dst)) × (from + n + (mix .beside + mix .second) ≤ length (now src)) ⌝ }
     ensures { λ _. ⌜ now (dst .exit) ≡ row (now (dst .entry)) to (mixedRow mix (now (src .entry)) from) n ⌝ }
 {
     let mut c = 0;
@@ -84,7 +85,7 @@ pub fn mix_block(
     from: usize,
     mix: Mix,
 )
-    requires { ⌜ Even stride mix ⌝ }
+    requires { ⌜ FromSquare stride mix ⌝ }
     requires { ⌜ Inside dstride dx dy w h (length (now dst)) ⌝ }
     requires { ⌜ from + h * stride + w < length (now src) ⌝ }
     ensures { λ _. ⌜ now (dst .exit) ≡ painted dstride dx dy w h (mixedBlock mix (now (src .entry)) stride from) (now (dst .entry)) ⌝ }

@@ -7,7 +7,7 @@ ghost use lib.ListN.{length, replicate};
 ghost use Rattle.picture.specs.Painted.{Inside, painted};
 ghost use Rattle.picture.specs.Rows.{row};
 ghost use Rattle.compensation.specs.Formula.{formula};
-ghost use Rattle.compensation.specs.Kernel.{Fair, Even, mixedBlock, fourBlock, extra};
+ghost use Rattle.compensation.specs.Kernel.{SumsTo12, FromSquare, mixedBlock, fourBlock, extra};
 ghost use Rattle.compensation.specs.Lanes.{laneAt, tiled, takenAt, Holds, mixedLane};
 ghost use Rattle.compensation.specs.Block.{Span};
 use crate::kernel::Mix;
@@ -87,7 +87,7 @@ fn mix_lanes(
     last: [u8; 16],
     mix: Mix,
 ) -> [u8; 16]
-    requires { ⌜ Fair mix ⌝ }
+    requires { ⌜ SumsTo12 mix ⌝ }
     ensures { λ r. ⌜ r ≡ row (replicate 16 0) 0 (mixedLane mix first beside second last) 16 ⌝ }
 {
     let mut t = [0u8; 16];
@@ -100,7 +100,7 @@ fn mix_lanes(
 }
 
 fn tile_16x1(src: &[u8], from: usize, stride: usize, mix: Mix) -> [u8; 16]
-    requires { ⌜ Even stride mix × (from + 1 * stride + 16 < length (now src)) ⌝ }
+    requires { ⌜ FromSquare stride mix × (from + 1 * stride + 16 < length (now src)) ⌝ }
     ensures { λ r. ⌜ Holds r 0 16 1 (mixedBlock mix (now (src .entry)) stride from) ⌝ }
 {
     let first = load_tile(src, from, stride, 16, 1);
@@ -121,7 +121,7 @@ fn mix_16x1(
     from: usize,
     mix: Mix,
 )
-    requires { ⌜ Even stride mix ⌝ }
+    requires { ⌜ FromSquare stride mix ⌝ }
     requires { ⌜ Inside dstride dx dy 16 h (length (now dst)) ⌝ }
     requires { ⌜ from + h * stride + 16 < length (now src) ⌝ }
     ensures { λ _. ⌜ now (dst .exit) ≡ painted dstride dx dy 16 h (mixedBlock mix (now (src .entry)) stride from) (now (dst .entry)) ⌝ }
@@ -135,7 +135,7 @@ fn mix_16x1(
 }
 
 fn tile_8x2(src: &[u8], from: usize, stride: usize, mix: Mix) -> [u8; 16]
-    requires { ⌜ Even stride mix × (from + 2 * stride + 8 < length (now src)) ⌝ }
+    requires { ⌜ FromSquare stride mix × (from + 2 * stride + 8 < length (now src)) ⌝ }
     ensures { λ r. ⌜ Holds r 0 8 2 (mixedBlock mix (now (src .entry)) stride from) ⌝ }
 {
     let first = load_tile(src, from, stride, 8, 2);
@@ -156,7 +156,7 @@ fn mix_8x2(
     from: usize,
     mix: Mix,
 )
-    requires { ⌜ Even stride mix × (h % 2 ≡ 0) ⌝ }
+    requires { ⌜ FromSquare stride mix × (h % 2 ≡ 0) ⌝ }
     requires { ⌜ Inside dstride dx dy 8 h (length (now dst)) ⌝ }
     requires { ⌜ from + h * stride + 8 < length (now src) ⌝ }
     ensures { λ _. ⌜ now (dst .exit) ≡ painted dstride dx dy 8 h (mixedBlock mix (now (src .entry)) stride from) (now (dst .entry)) ⌝ }
@@ -170,7 +170,7 @@ fn mix_8x2(
 }
 
 fn tile_4x4(src: &[u8], from: usize, stride: usize, mix: Mix) -> [u8; 16]
-    requires { ⌜ Even stride mix × (from + 4 * stride + 4 < length (now src)) ⌝ }
+    requires { ⌜ FromSquare stride mix × (from + 4 * stride + 4 < length (now src)) ⌝ }
     ensures { λ r. ⌜ Holds r 0 4 4 (mixedBlock mix (now (src .entry)) stride from) ⌝ }
 {
     let first = load_tile(src, from, stride, 4, 4);
@@ -191,7 +191,7 @@ fn mix_4x4(
     from: usize,
     mix: Mix,
 )
-    requires { ⌜ Even stride mix × (h % 4 ≡ 0) ⌝ }
+    requires { ⌜ FromSquare stride mix × (h % 4 ≡ 0) ⌝ }
     requires { ⌜ Inside dstride dx dy 4 h (length (now dst)) ⌝ }
     requires { ⌜ from + h * stride + 4 < length (now src) ⌝ }
     ensures { λ _. ⌜ now (dst .exit) ≡ painted dstride dx dy 4 h (mixedBlock mix (now (src .entry)) stride from) (now (dst .entry)) ⌝ }
@@ -205,7 +205,7 @@ fn mix_4x4(
 }
 
 fn both_8x1(rcb: &[u8], rcr: &[u8], from: usize, stride: usize, mix: Mix) -> [u8; 16]
-    requires { ⌜ Even stride mix × (from + 1 * stride + 8 < length (now rcb)) × (from + 1 * stride + 8 < length (now rcr)) ⌝ }
+    requires { ⌜ FromSquare stride mix × (from + 1 * stride + 8 < length (now rcb)) × (from + 1 * stride + 8 < length (now rcr)) ⌝ }
     ensures { λ r. ⌜ Holds r 0 8 1 (mixedBlock mix (now (rcb .entry)) stride from) × Holds r 8 8 1 (mixedBlock mix (now (rcr .entry)) stride from) ⌝ }
 {
     let first = load_both(rcb, rcr, from, stride, 8, 1);
@@ -227,7 +227,7 @@ fn pair_8x1(
     from: usize,
     mix: Mix,
 )
-    requires { ⌜ Even stride mix ⌝ }
+    requires { ⌜ FromSquare stride mix ⌝ }
     requires { ⌜ Inside stride dx dy 8 h (length (now cb)) × Inside stride dx dy 8 h (length (now cr)) ⌝ }
     requires { ⌜ (from + h * stride + 8 < length (now rcb)) × (from + h * stride + 8 < length (now rcr)) ⌝ }
     ensures { λ _. ⌜ now (cb .exit) ≡ painted stride dx dy 8 h (mixedBlock mix (now (rcb .entry)) stride from) (now (cb .entry)) ⌝ }
@@ -243,7 +243,7 @@ fn pair_8x1(
 }
 
 fn both_4x2(rcb: &[u8], rcr: &[u8], from: usize, stride: usize, mix: Mix) -> [u8; 16]
-    requires { ⌜ Even stride mix × (from + 2 * stride + 4 < length (now rcb)) × (from + 2 * stride + 4 < length (now rcr)) ⌝ }
+    requires { ⌜ FromSquare stride mix × (from + 2 * stride + 4 < length (now rcb)) × (from + 2 * stride + 4 < length (now rcr)) ⌝ }
     ensures { λ r. ⌜ Holds r 0 4 2 (mixedBlock mix (now (rcb .entry)) stride from) × Holds r 8 4 2 (mixedBlock mix (now (rcr .entry)) stride from) ⌝ }
 {
     let first = load_both(rcb, rcr, from, stride, 4, 2);
@@ -265,7 +265,7 @@ fn pair_4x2(
     from: usize,
     mix: Mix,
 )
-    requires { ⌜ Even stride mix × (h % 2 ≡ 0) ⌝ }
+    requires { ⌜ FromSquare stride mix × (h % 2 ≡ 0) ⌝ }
     requires { ⌜ Inside stride dx dy 4 h (length (now cb)) × Inside stride dx dy 4 h (length (now cr)) ⌝ }
     requires { ⌜ (from + h * stride + 4 < length (now rcb)) × (from + h * stride + 4 < length (now rcr)) ⌝ }
     ensures { λ _. ⌜ now (cb .exit) ≡ painted stride dx dy 4 h (mixedBlock mix (now (rcb .entry)) stride from) (now (cb .entry)) ⌝ }
@@ -281,7 +281,7 @@ fn pair_4x2(
 }
 
 fn both_2x2(rcb: &[u8], rcr: &[u8], from: usize, stride: usize, mix: Mix) -> [u8; 16]
-    requires { ⌜ Even stride mix × (from + 2 * stride + 2 < length (now rcb)) × (from + 2 * stride + 2 < length (now rcr)) ⌝ }
+    requires { ⌜ FromSquare stride mix × (from + 2 * stride + 2 < length (now rcb)) × (from + 2 * stride + 2 < length (now rcr)) ⌝ }
     ensures { λ r. ⌜ Holds r 0 2 2 (mixedBlock mix (now (rcb .entry)) stride from) × Holds r 4 2 2 (mixedBlock mix (now (rcr .entry)) stride from) ⌝ }
 {
     let first = load_both(rcb, rcr, from, stride, 2, 2);
@@ -302,7 +302,7 @@ fn pair_2x2(
     from: usize,
     mix: Mix,
 )
-    requires { ⌜ Even stride mix ⌝ }
+    requires { ⌜ FromSquare stride mix ⌝ }
     requires { ⌜ Inside stride dx dy 2 2 (length (now cb)) × Inside stride dx dy 2 2 (length (now cr)) ⌝ }
     requires { ⌜ (from + 2 * stride + 2 < length (now rcb)) × (from + 2 * stride + 2 < length (now rcr)) ⌝ }
     ensures { λ _. ⌜ now (cb .exit) ≡ painted stride dx dy 2 2 (mixedBlock mix (now (rcb .entry)) stride from) (now (cb .entry)) ⌝ }
@@ -314,7 +314,7 @@ fn pair_2x2(
 }
 
 fn both_2x4(rcb: &[u8], rcr: &[u8], from: usize, stride: usize, mix: Mix) -> [u8; 16]
-    requires { ⌜ Even stride mix × (from + 4 * stride + 2 < length (now rcb)) × (from + 4 * stride + 2 < length (now rcr)) ⌝ }
+    requires { ⌜ FromSquare stride mix × (from + 4 * stride + 2 < length (now rcb)) × (from + 4 * stride + 2 < length (now rcr)) ⌝ }
     ensures { λ r. ⌜ Holds r 0 2 4 (mixedBlock mix (now (rcb .entry)) stride from) × Holds r 8 2 4 (mixedBlock mix (now (rcr .entry)) stride from) ⌝ }
 {
     let first = load_both(rcb, rcr, from, stride, 2, 4);
@@ -335,7 +335,7 @@ fn pair_2x4(
     from: usize,
     mix: Mix,
 )
-    requires { ⌜ Even stride mix ⌝ }
+    requires { ⌜ FromSquare stride mix ⌝ }
     requires { ⌜ Inside stride dx dy 2 4 (length (now cb)) × Inside stride dx dy 2 4 (length (now cr)) ⌝ }
     requires { ⌜ (from + 4 * stride + 2 < length (now rcb)) × (from + 4 * stride + 2 < length (now rcr)) ⌝ }
     ensures { λ _. ⌜ now (cb .exit) ≡ painted stride dx dy 2 4 (mixedBlock mix (now (rcb .entry)) stride from) (now (cb .entry)) ⌝ }
@@ -359,7 +359,7 @@ fn mix_one(
     from: usize,
     mix: Mix,
 )
-    requires { ⌜ Even stride mix ⌝ }
+    requires { ⌜ FromSquare stride mix ⌝ }
     requires { ⌜ Inside dstride dx dy w h (length (now dst)) ⌝ }
     requires { ⌜ from + h * stride + w < length (now src) ⌝ }
     ensures { λ _. ⌜ now (dst .exit) ≡ painted dstride dx dy w h (mixedBlock mix (now (src .entry)) stride from) (now (dst .entry)) ⌝ }
@@ -389,7 +389,7 @@ fn mix_pair(
     from: usize,
     mix: Mix,
 )
-    requires { ⌜ Even stride mix ⌝ }
+    requires { ⌜ FromSquare stride mix ⌝ }
     requires { ⌜ Inside stride dx dy w h (length (now cb)) × Inside stride dx dy w h (length (now cr)) ⌝ }
     requires { ⌜ (from + h * stride + w < length (now rcb)) × (from + h * stride + w < length (now rcr)) ⌝ }
     ensures { λ _. ⌜ now (cb .exit) ≡ painted stride dx dy w h (mixedBlock mix (now (rcb .entry)) stride from) (now (cb .entry)) ⌝ }

@@ -22,7 +22,7 @@ use Rattle.checking.specs.Records.{records, recordsIn}
 use Rattle.checking.specs.Check.{checkAnswer, checked}
 use Rattle.checking.specs.declared.CheckAnswer.{CheckAnswer}
 use Rattle.checking.specs.declared.CheckAnswer.the-variants.{Records, Refused}
-use Rattle.desk.specs.Answer.{sideOf}
+use Rattle.desk.specs.Given.{sideOf}
 
 -- ---- how many values are read: a turn reads one at most
 abbrev Few : {X : Type 0} → ℕ → Got (List X) → Type 0

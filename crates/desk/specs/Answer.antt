@@ -1,25 +1,46 @@
--- The one number that a C host gets.
+-- The number that each entry returns: 0 or a count where the work is done, else minus the refusal's number.
 -- Assumes nothing.
 use Prim.Native.Nat.{ℕ}
-use lib.Dec.{leb}
 use lib.IntN.{ℤ, pos, negℤ}
-use Rattle.ints.specs.Z.{if_then_else_}
 use Rattle.refusal.specs.Refusal.{numberOf}
+use Rattle.refusal.specs.declared.Refusal.{Refusal}
 use Rattle.compensation.specs.declared.svq3_mc.BlockAnswer.{BlockAnswer}
-use Rattle.compensation.specs.declared.svq3_mc.BlockAnswer.the-variants.{Done, Refused}
+use Rattle.compensation.specs.declared.svq3_mc.BlockAnswer.the-variants as block
 use Rattle.checking.specs.declared.CheckAnswer.{CheckAnswer}
 use Rattle.checking.specs.declared.CheckAnswer.the-variants as check
+use Rattle.outcome.specs.declared.MbAnswer.{MbAnswer}
+use Rattle.outcome.specs.declared.MbAnswer.the-variants as mb
+use Rattle.report.specs.declared.Stop.{Stop}
+use Rattle.report.specs.declared.Stop.the-variants.{Done, By}
+use Rattle.replay.specs.declared.ReplayAnswer.{ReplayAnswer}
+use Rattle.replay.specs.declared.ReplayAnswer.the-variants as replay
 
--- 0 where the block was made, else minus document 01's number of the refusal
+-- minus document 01's number of the refusal
+abbrev pub refusalCode : Refusal → ℤ
+refusalCode why = negℤ (pos (numberOf why))
+
+-- a counts array that is too short
+abbrev pub outputRoom : ℤ
+outputRoom = negℤ (pos 18)
+
 abbrev pub blockCode : BlockAnswer → ℤ
-blockCode Done = pos 0
-blockCode (Refused why) = negℤ (pos (numberOf why))
+blockCode block.Done = pos 0
+blockCode (block.Refused why) = refusalCode why
 
--- the number of records, else minus document 01's number of the refusal
+-- the number of records
 abbrev pub checkCode : CheckAnswer → ℤ
 checkCode (check.Records n) = pos n
-checkCode (check.Refused why) = negℤ (pos (numberOf why))
+checkCode (check.Refused why) = refusalCode why
 
--- a side of the grid, or 0 where 32 bits do not hold it
-abbrev pub sideOf : ℕ → ℕ
-sideOf n = if leb n 4294967295 then n else 0
+abbrev pub mbCode : MbAnswer → ℤ
+mbCode (mb.Accepted next after filled clipped) = pos 0
+mbCode (mb.Refused why) = refusalCode why
+
+-- why a run ended
+abbrev pub stopCode : Stop → ℤ
+stopCode Done = pos 0
+stopCode (By why) = refusalCode why
+
+abbrev pub replayCode : ReplayAnswer → ℤ
+replayCode (replay.Replayed n after) = pos 0
+replayCode (replay.Refused why) = refusalCode why

@@ -1,23 +1,176 @@
-// What a C host of the guidance desk calls: numbers and byte slices in, one number out. include/svq3_desk.h declares it for C.
+// What a C host calls: numbers and slices in, one number out, and counts. include/svq3_desk.h declares it for C.
 ghost use mathlib.Core.Path.{_≡_};
 ghost use lib.ListN.{length};
 ghost use Rattle.compensation.specs.Block.{blockAnswer, blockOut};
 ghost use Rattle.checking.specs.Check.{checked};
-ghost use Rattle.desk.specs.Answer.{blockCode, sideOf, checkCode};
+ghost use Rattle.desk.specs.Given.{frameOf};
+ghost use Rattle.desk.specs.Answer.{blockCode, checkCode};
+ghost use Rattle.desk.specs.Entries.{slicesOf, ended, callOf, startOf, mbEnded, runEnded, replayEnded};
+use crate::given::frame_of;
+use crate::given::side;
+use crate::told::refused;
+use crate::told::tell_macroblock;
+use crate::told::tell_replay;
+use crate::told::tell_run;
 use checking::CheckAnswer;
 use checking::check_transcript;
 use compensation::svq3_mc::BlockAnswer;
 use compensation::svq3_mc::motion_compensate_block;
-use refusal::number_of;
+use macroblock::svq3_frame::decode_inter_mb;
+use questions::Call;
+use replay::replay::replay;
+use run::run::run;
 
-// 0, or minus the refusal's number.
-fn block_code(answer: BlockAnswer) -> i64
-    ensures { λ r. ⌜ r ≡ blockCode answer ⌝ }
+pub mod given;
+pub mod told;
+
+// How many counts an entry writes.
+const MB_COUNTS: usize = 5;
+
+const RUN_COUNTS: usize = 5;
+
+const REPLAY_COUNTS: usize = 2;
+
+// The answer where there are fewer, and then nothing is done.
+const OUTPUT_ROOM: i64 = -18;
+
+// One macroblock. The counts: place, quantiser, fill, clipped components, detail.
+#[no_mangle]
+pub extern "C" fn svq3_macroblock(
+    cols: u64,
+    rows: u64,
+    flags: u32,
+    delta: u32,
+    quantiser: u32,
+    ry: &[u8],
+    rcb: &[u8],
+    rcr: &[u8],
+    y: &mut [u8],
+    cb: &mut [u8],
+    cr: &mut [u8],
+    mv: &mut [i32],
+    marks: &mut [u8],
+    column: u32,
+    row: u32,
+    mode: u32,
+    bits: &[u8],
+    place: u64,
+    transcript: &mut [u8],
+    fill: u64,
+    counts: &mut [u64],
+) -> i64
+    ensures { λ r. ⌜ ended r (now (y .exit)) (now (cb .exit)) (now (cr .exit)) (now (mv .exit)) (now (marks .exit)) (now (transcript .exit)) (now (counts .exit)) ≡ mbEnded (startOf (frameOf cols rows flags delta) quantiser (now (ry .entry)) (now (rcb .entry)) (now (rcr .entry)) (slicesOf (now (y .entry)) (now (cb .entry)) (now (cr .entry)) (now (mv .entry)) (now (marks .entry)) (now (transcript .entry)) (now (counts .entry)))) (slicesOf (now (y .entry)) (now (cb .entry)) (now (cr .entry)) (now (mv .entry)) (now (marks .entry)) (now (transcript .entry)) (now (counts .entry))) (callOf column row mode) (now (bits .entry)) place fill ⌝ }
 {
-    match answer {
-        BlockAnswer::Done => 0,
-        BlockAnswer::Refused(why) => -(number_of(why) as i64),
+    if counts.len() < MB_COUNTS {
+        return OUTPUT_ROOM;
     }
+    let frame = frame_of(cols, rows, flags, delta);
+    let call = Call { column, row, mode };
+    let answer = decode_inter_mb(
+        y,
+        cb,
+        cr,
+        mv,
+        marks,
+        transcript,
+        ry,
+        rcb,
+        rcr,
+        bits,
+        frame,
+        call,
+        quantiser,
+        place as usize,
+        fill as usize,
+    );
+    tell_macroblock(counts, answer, place, quantiser, fill)
+}
+
+// A run. The counts: accepted calls, consumed bits, fill, quantiser, detail.
+#[no_mangle]
+pub extern "C" fn svq3_run(
+    cols: u64,
+    rows: u64,
+    flags: u32,
+    delta: u32,
+    quantiser: u32,
+    ry: &[u8],
+    rcb: &[u8],
+    rcr: &[u8],
+    y: &mut [u8],
+    cb: &mut [u8],
+    cr: &mut [u8],
+    mv: &mut [i32],
+    marks: &mut [u8],
+    calls: &[u8],
+    bits: &[u8],
+    place: u64,
+    transcript: &mut [u8],
+    counts: &mut [u64],
+) -> i64
+    ensures { λ r. ⌜ ended r (now (y .exit)) (now (cb .exit)) (now (cr .exit)) (now (mv .exit)) (now (marks .exit)) (now (transcript .exit)) (now (counts .exit)) ≡ runEnded (startOf (frameOf cols rows flags delta) quantiser (now (ry .entry)) (now (rcb .entry)) (now (rcr .entry)) (slicesOf (now (y .entry)) (now (cb .entry)) (now (cr .entry)) (now (mv .entry)) (now (marks .entry)) (now (transcript .entry)) (now (counts .entry)))) (slicesOf (now (y .entry)) (now (cb .entry)) (now (cr .entry)) (now (mv .entry)) (now (marks .entry)) (now (transcript .entry)) (now (counts .entry))) (now (calls .entry)) (now (bits .entry)) place ⌝ }
+{
+    if counts.len() < RUN_COUNTS {
+        return OUTPUT_ROOM;
+    }
+    let frame = frame_of(cols, rows, flags, delta);
+    let report = run(
+        y,
+        cb,
+        cr,
+        mv,
+        marks,
+        transcript,
+        ry,
+        rcb,
+        rcr,
+        bits,
+        calls,
+        frame,
+        quantiser,
+        place as usize,
+    );
+    tell_run(counts, report)
+}
+
+// The replay of a transcript. The counts: records, quantiser.
+#[no_mangle]
+pub extern "C" fn svq3_replay(
+    cols: u64,
+    rows: u64,
+    quantiser: u32,
+    ry: &[u8],
+    rcb: &[u8],
+    rcr: &[u8],
+    y: &mut [u8],
+    cb: &mut [u8],
+    cr: &mut [u8],
+    mv: &mut [i32],
+    marks: &mut [u8],
+    transcript: &[u8],
+    counts: &mut [u64],
+) -> i64
+    ensures { λ r. ⌜ ended r (now (y .exit)) (now (cb .exit)) (now (cr .exit)) (now (mv .exit)) (now (marks .exit)) (now (transcript .entry)) (now (counts .exit)) ≡ replayEnded (startOf (frameOf cols rows 0 0) quantiser (now (ry .entry)) (now (rcb .entry)) (now (rcr .entry)) (slicesOf (now (y .entry)) (now (cb .entry)) (now (cr .entry)) (now (mv .entry)) (now (marks .entry)) (now (transcript .entry)) (now (counts .entry)))) (slicesOf (now (y .entry)) (now (cb .entry)) (now (cr .entry)) (now (mv .entry)) (now (marks .entry)) (now (transcript .entry)) (now (counts .entry))) ⌝ }
+{
+    if counts.len() < REPLAY_COUNTS {
+        return OUTPUT_ROOM;
+    }
+    // a replay reads no bits, so that no flag counts
+    let frame = frame_of(cols, rows, 0, 0);
+    let answer = replay(
+        y,
+        cb,
+        cr,
+        mv,
+        marks,
+        ry,
+        rcb,
+        rcr,
+        transcript,
+        frame,
+        quantiser,
+    );
+    tell_replay(counts, answer, quantiser)
 }
 
 // The compensated block of `plane` at (x, y), w × h samples by rows, into `out`; on refusal `out` keeps its bytes.
@@ -49,14 +202,10 @@ pub extern "C" fn svq3_compensate_block(
         vx,
         vy,
     );
-    block_code(answer)
-}
-
-// A side of the grid that 32 bits do not hold is past 4,096, and 0 is refused as it would be.
-fn side(n: u64) -> u32
-    ensures { λ r. ⌜ r ≡ sideOf n ⌝ }
-{
-    if n <= 0xffff_ffff { n as u32 } else { 0 }
+    match answer {
+        BlockAnswer::Done => 0,
+        BlockAnswer::Refused(why) => refused(why),
+    }
 }
 
 // The number of records of a transcript for a grid, or minus the refusal's number.
@@ -66,6 +215,6 @@ pub extern "C" fn svq3_check_transcript(cols: u64, rows: u64, bytes: &[u8]) -> i
 {
     match check_transcript(bytes, side(cols), side(rows)) {
         CheckAnswer::Records(n) => n as i64,
-        CheckAnswer::Refused(why) => -(number_of(why) as i64),
+        CheckAnswer::Refused(why) => refused(why),
     }
 }

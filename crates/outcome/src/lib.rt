@@ -1,10 +1,7 @@
 // What one call finds, answers and leaves: its types, and the definition of a call (specs/Decode.antt).
 ghost use mathlib.Core.Path.{_≡_};
-ghost use lib.Dec.{eqb};
-ghost use Rattle.ints.specs.Z.{if_then_else_};
 ghost use Rattle.outcome.specs.Entry.{cursorBy};
 use reading::svq3_frame::Flags;
-use record::Head;
 use refusal::Refusal;
 
 pub enum MbAnswer {
@@ -24,17 +21,6 @@ pub struct Frame {
 pub struct Cursor {
     pub place: usize,
     pub quantiser: u32,
-}
-
-// The quantiser afterwards: a skip keeps it.
-pub fn quantiser_after(quantiser: u32, head: Head) -> u32
-    ensures { λ r. ⌜ r ≡ (if eqb (head .mode) 0 then quantiser else head .quantiser) ⌝ }
-{
-    if head.mode == 0 {
-        quantiser
-    } else {
-        head.quantiser
-    }
 }
 
 // Where a call leaves the caller: past an accepted macroblock, where it was at a refusal.

@@ -4,12 +4,10 @@ use mathlib.Core.Path.{_≡_, refl, sym, ap, subst, _∙_}
 use mathlib.Core.Bool.{Bool}
 use mathlib.Core.List.{List}
 use Prim.Native.Nat.{ℕ, _+_}
-use native.Mathlib.Nat.{add-assoc, add-zero}
-use borrow.Author.Tests.{eq-eqb, ne-eqb}
+use native.Mathlib.Nat.{add-assoc}
 use lib.IntN.{ℤ}
 use lib.ListN.{drop}
 use lib.Seq.{drop-drop}
-use Rattle.ints.proofs.Fits.{if-yes, if-no}
 use Rattle.refusal.specs.Got.{Got, got, refused, after, andThen, mapGot}
 use Rattle.refusal.specs.declared.Refusal.{Refusal}
 use Rattle.refusal.proofs.Formats.{got-value, never}
@@ -25,12 +23,12 @@ use Rattle.vectors.specs.declared.svq3_mb.Svq3MvPrecision.{Svq3MvPrecision}
 use Rattle.vectors.specs.declared.svq3_mb.PrecisionAnswer.the-variants as precise
 use Rattle.vectors.proofs.Answers.{precision-answered, precision-refused}
 use Rattle.questions.specs.declared.Call.{Call}
-use Rattle.record.specs.Record.{Record, noVectors, noLevels, skipHead, skipRecord}
+use Rattle.record.specs.Record.{Record, noLevels}
 use Rattle.record.specs.Items.{readItems}
 use Rattle.record.specs.Answers.{Left}
 use Rattle.record.specs.declared.Head.{Head}
 use Rattle.record.proofs.Answers.{ended, refused-by}
-use Rattle.reading.specs.Read.{Context, Moving, readVectors, readQuantiser, recordOf, atFirst, readResidual, readCoded, readMacroblock}
+use Rattle.reading.specs.Read.{Context, Moving, readVectors, readQuantiser, recordOf, atFirst, readResidual, readCoded}
 use Rattle.reading.specs.Answers.{quantiserAnswer, readAnswer, Vectoring, Reading}
 use Rattle.reading.specs.declared.svq3_frame.QuantiserAnswer.the-variants as quantiser
 use Rattle.reading.specs.declared.svq3_frame.VectorsAnswer.{VectorsAnswer}
@@ -149,18 +147,3 @@ module _ (c : Context) (call : Call) (s : List Bool) (at : ℕ) (vs ls : List �
         let m = vectors-answered b g clipped next (sym a ∙ t .answers) in
         let v : vs ≡ m .0 .vectors = t .leaves (m .0) (m .1 .taken) (m .1 .is) in
         with-precision o (on b s g (behindVectors p) vs ls (m .0) next o (m .1) (subst (λ (x : List ℤ). Reading next (behindVectors p (m .0) (drop next s)) o x ls) (sym v) (k (m .0) (m .2))))
-
--- ---- a skip, or not
-module _ (c : Context) (call : Call) (s : List Bool) (at : ℕ) (vs ls : List ℤ) where
-  pub skip : call .mode ≡ 0 → (o : Head) → o ≡ skipHead (call .column) (call .row) → vs ≡ noVectors → ls ≡ noLevels → Reading at (readMacroblock c call s) (Read o at) vs ls
-  unfolding readMacroblock skipRecord
-  skip z o i v l =
-      let w : readMacroblock c call s ≡ got (skipRecord (call .column) (call .row)) 0 = if-yes _ _ _ (eq-eqb (call .mode) 0 z) in
-      record {
-        answers = ap (λ (x : Head). Read x at) i ∙ ap (Read (skipHead (call .column) (call .row))) (sym (add-zero at)) ∙ ap (readAnswer at) (sym w);
-        leaves = λ r n x. let e = got-value (sym w ∙ x) in (v ∙ ap (λ (y : Record). y .vectors) e, l ∙ ap (λ (y : Record). y .levels) e);
-      }
-
-  pub coded : (call .mode ≡ 0 → ⊥) → (answer : ReadAnswer) → Reading at (readCoded c call s) answer vs ls → Reading at (readMacroblock c call s) answer vs ls
-  unfolding readMacroblock
-  coded z answer k = subst (λ (g : Got Record). Reading at g answer vs ls) (sym (if-no _ _ _ (ne-eqb (call .mode) 0 z))) k

@@ -8,7 +8,7 @@ ghost use Rattle.picture.specs.Picture.{Within, cellCount};
 ghost use Rattle.predict.specs.Predict.{fieldOf};
 ghost use Rattle.vectors.specs.Modes.{numMotionVectors};
 ghost use Rattle.record.specs.Record.{noVectors, noLevels};
-ghost use Rattle.reading.specs.Read.{Moving, moved, readVectors, readQuantiser, atFirst, readResidual, readCoded, readMacroblock};
+ghost use Rattle.reading.specs.Read.{Moving, moved, readVectors, readQuantiser, atFirst, readResidual, readCoded};
 ghost use Rattle.reading.specs.Answers.{contextOf, quantiserAnswer, InGrid, Holds, Stepping, Vectoring, Reading};
 use bits::pair::PairAnswer;
 use bits::pair::read_signed_pair;
@@ -22,7 +22,6 @@ use predict::window::store_partition_in;
 use questions::Call;
 use record::Head;
 use record::items::read_items;
-use record::skip_head;
 use refusal::Refusal;
 use residual::svq3_cbp::CbpAnswer;
 use residual::svq3_cbp::read_cbp_inter;
@@ -250,8 +249,9 @@ fn read_residual(
     }
 }
 
-// Precision, vectors, and what follows: of a macroblock that is no skip.
-fn read_coded(
+// A macroblock that is no skip, read from the bits: precision, vectors, and what follows. It answers the numbers of its record; its vectors and levels go into the two slices.
+// After a refusal the slices hold what was read before it.
+pub fn read_coded(
     vectors: &mut [i32],
     levels: &mut [i32],
     mv: &[i32],
@@ -285,41 +285,4 @@ fn read_coded(
         }
         PrecisionAnswer::Refused(r) => ReadAnswer::Refused(r),
     }
-}
-
-// One macroblock read from the bits: the numbers of its record; its vectors and levels go into the two slices. A skip reads nothing.
-// After a refusal the slices hold what was read before it.
-pub fn read_macroblock(
-    vectors: &mut [i32],
-    levels: &mut [i32],
-    mv: &[i32],
-    marks: &[u8],
-    bits: &[u8],
-    place: usize,
-    cols: usize,
-    rows: usize,
-    call: Call,
-    flags: Flags,
-    quantiser: u32,
-) -> ReadAnswer
-    requires { ⌜ Within cols rows (call .column) (call .row) × (call .mode ≤ 7) × (quantiser ≤ 31) × (length (now bits) < 2 ^ 61) ⌝ }
-    requires { ⌜ (length (now mv) ≡ 2 * cellCount cols rows) × (length (now marks) ≡ cellCount cols rows) × (now vectors ≡ noVectors) × (now levels ≡ noLevels) ⌝ }
-    ensures { λ r. ⌜ Reading place (readMacroblock (contextOf cols rows (now (mv .entry)) (now (marks .entry)) flags quantiser) call (drop place (bitList (now (bits .entry))))) r (now (vectors .exit)) (now (levels .exit)) ⌝ }
-{
-    if call.mode == 0 {
-        return ReadAnswer::Read(skip_head(call.column, call.row), place);
-    }
-    read_coded(
-        vectors,
-        levels,
-        mv,
-        marks,
-        bits,
-        place,
-        cols,
-        rows,
-        call,
-        flags,
-        quantiser,
-    )
 }

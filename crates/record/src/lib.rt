@@ -1,6 +1,6 @@
 // A macroblock's record: what was read of it, as it goes to the transcript and comes back.
 ghost use mathlib.Core.Path.{_≡_};
-ghost use Rattle.record.specs.Record.{placeHead, skipHead, withMotion, withResidual};
+ghost use Rattle.record.specs.Record.{placeHead, withMotion, withResidual};
 
 pub mod items;
 
@@ -31,12 +31,6 @@ pub fn place_head(column: u32, row: u32, mode: u32) -> Head
         pattern: 0,
         quantiser: 0,
     }
-}
-
-pub fn skip_head(column: u32, row: u32) -> Head
-    ensures { λ r. ⌜ r ≡ skipHead column row ⌝ }
-{
-    place_head(column, row, 0)
 }
 
 pub fn with_motion(head: Head, precision: u32, clipped: u32) -> Head

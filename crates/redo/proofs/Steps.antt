@@ -2,8 +2,8 @@
 -- Assumes nothing.
 use mathlib.Core.Path.{_≡_, refl, sym, ap, _∙_}
 use mathlib.Core.List.{List, []}
-use Prim.Native.Nat.{ℕ, _+_, _≤_}
-use lib.Dec.{eqb}
+use Prim.Native.Nat.{ℕ, _+_, _*_, _≤_, _<_}
+use native.Mathlib.Omega.{arith}
 use lib.IntN.{ℤ}
 use lib.ListN.{drop}
 use Rattle.ints.specs.Z.{if_then_else_}
@@ -14,7 +14,8 @@ use Rattle.record.specs.Record.{Record, recordOf, noVectors, noLevels, skipReco
 use Rattle.record.specs.Parse.{parseMotion, parseRecord}
 use Rattle.record.specs.Range.{RecordRange}
 use Rattle.record.specs.declared.Head.{Head}
-use Rattle.record.proofs.Records.{record-format}
+use Rattle.record.proofs.Padded.{used-most}
+use Rattle.record.proofs.Records.{motion-format, record-format}
 use Rattle.parsing.specs.Answers.{placeAnswer, Parsing}
 use Rattle.parsing.specs.Place.{parsePlace}
 use Rattle.parsing.specs.declared.parse.ParseAnswer.{ParseAnswer}
@@ -24,7 +25,7 @@ use Rattle.parsing.proofs.Places.{PlaceRange, placed-range, not-parsed, skip-is
 use Rattle.apply.specs.Apply.{appliedLuma, appliedChroma, appliedField}
 use Rattle.outcome.specs.State.{State, fieldOf}
 use Rattle.outcome.specs.Decode.{applied, quantiserAfter}
-use Rattle.outcome.proofs.Laws.{changed}
+use Rattle.outcome.proofs.Laws.{changed, coded-quantiser}
 use Rattle.redo.specs.Stepped.{Stepped}
 
 module _ (s : State) (bytes : List ℕ) (at : ℕ) where
@@ -60,9 +61,9 @@ module _ (s : State) (bytes : List ℕ) (at : ℕ) where
         (w ∙ ap (λ (x : Head). applied s (recordOf x noVectors noLevels)) (sym (skip-is (s .cols) (s .rows) bytes at h next e z)))
 
     -- another one, whose motion was read
-    module _ (z : h .mode ≡ 0 → ⊥) (a : ParseAnswer) (vs ls : List ℤ) (p : Parsing next (parseMotion h (drop next bytes)) a vs ls) where
+    module _ (z : 0 < h .mode) (a : ParseAnswer) (vs ls : List ℤ) (p : Parsing next (parseMotion h (drop next bytes)) a vs ls) where
       whole-is : Parsing at read a vs ls
-      whole-is = coded-parsed (s .cols) (s .rows) bytes at h next e z a vs ls p
+      whole-is = coded-parsed (s .cols) (s .rows) bytes at h next e (λ m. omega arith) a vs ls p
 
       pub no-motion : (why : Refusal) → a ≡ Refused why → (end : ℕ) (t : State) → Stepped (parseRecord (s .cols) (s .rows) (drop at bytes)) at end s t
       no-motion why i = none why (rw i at whole-is)
@@ -73,20 +74,26 @@ module _ (s : State) (bytes : List ℕ) (at : ℕ) where
             let b = parsed at read o end vs ls (rw i at whole-is) in
             record-format (s .cols) (s .rows) wide high .came (drop at bytes) (recordOf o vs ls) (b .taken) (b .is) .in-range
 
+        pub no-skip : 0 < o .mode
+        no-skip =
+            let b = parsed next (parseMotion h (drop next bytes)) o end vs ls (rw i at p) in
+            let k = motion-format h (used-most (h .mode) (in-place .mode)) .came (drop next bytes) (recordOf o vs ls) (b .taken) (b .is) .in-range in
+            omega (arith, ap (λ (x : Head). x .mode) (k .rest .head))
+
         pub coded-step : (t : State) → t ≡ applied s (recordOf o vs ls) → Stepped (parseRecord (s .cols) (s .rows) (drop at bytes)) at end s t
         coded-step = done (rw i at whole-is)
 
--- a record's work, list by list
-pub applied-is : (s : State) (r : Record) {q : ℕ} {y cb cr : List ℕ} {mv : List ℤ} {marks : List ℕ}
-    → q ≡ (if eqb (r .head .mode) 0 then s .quantiser else r .head .quantiser)
+-- the work of a record that is no skip, list by list
+pub applied-is : (s : State) (r : Record) {y cb cr : List ℕ} {mv : List ℤ} {marks : List ℕ}
+    → 0 < r .head .mode
     → y ≡ appliedLuma (s .cols) (s .rows) (s .ry) r (s .y)
     → cb ≡ appliedChroma 0 (s .cols) (s .rows) (s .rcb) r (s .cb)
     → cr ≡ appliedChroma 1 (s .cols) (s .rows) (s .rcr) r (s .cr)
     → mv ≡ appliedField r (fieldOf s) .mv
     → marks ≡ appliedField r (fieldOf s) .marks
-    → changed s q y cb cr mv marks ≡ applied s r
-unfolding applied quantiserAfter
-applied-is s r eq ey ecb ecr em ek = λ i. changed s (eq i) (ey i) (ecb i) (ecr i) (em i) (ek i)
+    → changed s (r .head .quantiser) y cb cr mv marks ≡ applied s r
+unfolding applied
+applied-is s r h ey ecb ecr em ek = let q = sym (coded-quantiser s r h) in λ i. changed s (q i) (ey i) (ecb i) (ecr i) (em i) (ek i)
 
 -- the same of a skip
 pub skip-applied : (s : State) (column row : ℕ) {y cb cr : List ℕ} {mv : List ℤ} {marks : List ℕ}

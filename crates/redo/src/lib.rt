@@ -1,6 +1,6 @@
 // One record of a transcript, its work done again.
 ghost use mathlib.Core.Path.{_≡_};
-ghost use Prim.Native.Nat.{_*_, _≤_};
+ghost use Prim.Native.Nat.{_*_, _≤_, _<_};
 ghost use lib.ListN.{length, drop};
 ghost use Rattle.picture.specs.Picture.{Sized, cellCount};
 ghost use Rattle.record.specs.Parse.{parseRecord};
@@ -8,10 +8,9 @@ ghost use Rattle.parsing.specs.Answers.{placeAnswer};
 ghost use Rattle.parsing.specs.Place.{parsePlace};
 ghost use Rattle.outcome.specs.Entry.{stateOf};
 ghost use Rattle.redo.specs.Stepped.{Stepped};
-use apply::applied::apply_record;
+use apply::applied::apply_coded;
 use apply::applied::apply_skip;
 use outcome::Frame;
-use outcome::quantiser_after;
 use parsing::parse::ParseAnswer;
 use parsing::parse::parse_motion;
 use parsing::parse::parse_place;
@@ -40,7 +39,7 @@ fn replay_coded(
     head: Head,
     next: usize,
 ) -> Step
-    requires { ⌜ (frame .cols ≤ 4096) × (frame .rows ≤ 4096) × (ParseAnswer.Parsed head next ≡ placeAnswer at (parsePlace (frame .cols) (frame .rows) (drop at (now bytes)))) × (head .mode ≡ 0 → ⊥) ⌝ }
+    requires { ⌜ (frame .cols ≤ 4096) × (frame .rows ≤ 4096) × (ParseAnswer.Parsed head next ≡ placeAnswer at (parsePlace (frame .cols) (frame .rows) (drop at (now bytes)))) × (0 < head .mode) ⌝ }
     requires { ⌜ Sized (frame .cols) (frame .rows) (length (now y)) (length (now cb)) (length (now cr)) × Sized (frame .cols) (frame .rows) (length (now ry)) (length (now rcb)) (length (now rcr)) × (length (now mv) ≡ 2 * cellCount (frame .cols) (frame .rows)) × (length (now marks) ≡ cellCount (frame .cols) (frame .rows)) ⌝ }
     ensures { λ r. ⌜ Stepped (parseRecord (frame .cols) (frame .rows) (drop at (now (bytes .entry)))) at (r .next) (stateOf frame quantiser (now (ry .entry)) (now (rcb .entry)) (now (rcr .entry)) (now (y .entry)) (now (cb .entry)) (now (cr .entry)) (now (mv .entry)) (now (marks .entry))) (stateOf frame (r .quantiser) (now (ry .entry)) (now (rcb .entry)) (now (rcr .entry)) (now (y .exit)) (now (cb .exit)) (now (cr .exit)) (now (mv .exit)) (now (marks .exit))) ⌝ }
 {
@@ -50,7 +49,7 @@ fn replay_coded(
     else {
         return Step { quantiser, next };
     };
-    apply_record(
+    apply_coded(
         y,
         cb,
         cr,
@@ -66,7 +65,7 @@ fn replay_coded(
         coded,
     );
     Step {
-        quantiser: quantiser_after(quantiser, coded),
+        quantiser: coded.quantiser,
         next: end,
     }
 }

@@ -6,7 +6,7 @@ use mathlib.Core.List.{List, [], _∷_, _++_, append-assoc, append-nil}
 use Prim.Native.Nat.{ℕ, suc, _+_, _-_, _*_, _≤_, _<_}
 use native.Mathlib.Numerals.{add-one}
 use native.Mathlib.Omega.{arith}
-use borrow.Author.Tests.{eq-eqb, ne-eqb}
+use borrow.Author.Tests.{ne-eqb}
 use lib.Dec.{eqb}
 use lib.IntN.{ℤ, pos}
 use lib.ListN.{length, getD, take, drop, length-append}
@@ -26,7 +26,7 @@ use Rattle.record.specs.Items.{writeLists}
 use Rattle.record.specs.Write.{signedNumbers, itemBytes, itemsBytes, restBytes, recordBytes}
 use Rattle.record.specs.Sides.{sideBytes}
 use Rattle.transcript.specs.Answers.{Written}
-use Rattle.record.proofs.Turns.{when-true, when-false}
+use Rattle.record.proofs.Turns.{when-false}
 use Rattle.record.proofs.Sets.{sets-append}
 use Rattle.record.proofs.Sides.{write-parts, dc-side, ac-side, dc-place, no-class, some-class, side-written, side-unwritten}
 
@@ -117,10 +117,6 @@ module _ {out₀ : List ℕ} {at : ℕ} {bytes out : List ℕ} {p : ℕ} {a : Li
 
 pub due-none : {out₀ : List ℕ} {at : ℕ} {bytes out : List ℕ} {p : ℕ} → Due out₀ at bytes out p [] → Written out₀ at bytes p out
 due-none d = still-none (d .still) refl
-
--- nothing is left
-pub due-nothing : {out₀ : List ℕ} {at : ℕ} {bytes out : List ℕ} {p : ℕ} {a : List ℕ} → a ≡ [] → Due out₀ at bytes out p (a ∷ []) → Written out₀ at bytes p out
-due-nothing {out = out} {p = p} e d = due-none (due-next d (record { moved = omega (arith, ap length e); leaves = ap (sets out p) (sym e) }))
 
 -- ---- signed numbers
 -- the first of those that are left
@@ -229,20 +225,15 @@ pub rest-parts : (r : Record) → restBytes r ≡ joined (number (r .head .preci
 unfolding restBytes
 rest-parts r = simp (append-assoc, append-nil)
 
-pub record-parts : (r : Record) → recordBytes r ≡ joined (number (r .head .column) ∷ number (r .head .row) ∷ number (r .head .mode) ∷ (if eqb (r .head .mode) 0 then [] else restBytes r) ∷ [])
+-- no skip: the rest follows its mode
+pub coded-parts : (r : Record) → 0 < r .head .mode → recordBytes r ≡ joined (number (r .head .column) ∷ number (r .head .row) ∷ number (r .head .mode) ∷ restBytes r ∷ [])
 unfolding recordBytes
-record-parts r = simp (append-assoc, append-nil)
-
-pub skip-rest : (r : Record) → r .head .mode ≡ 0 → (if eqb (r .head .mode) 0 then [] else restBytes r) ≡ []
-skip-rest r e = when-true (eqb (r .head .mode) 0) [] (restBytes r) (eq-eqb (r .head .mode) 0 e)
-
-pub coded-rest : (r : Record) → (r .head .mode ≡ 0 → ⊥) → (if eqb (r .head .mode) 0 then [] else restBytes r) ≡ restBytes r
-coded-rest r e = when-false (eqb (r .head .mode) 0) [] (restBytes r) (ne-eqb (r .head .mode) 0 e)
+coded-parts r h = rw (when-false (eqb (r .head .mode) 0) [] (restBytes r) (ne-eqb (r .head .mode) 0 (omega arith))) (simp (append-assoc, append-nil))
 
 -- a skip: its place and mode 0
 pub skip-parts : (column row : ℕ) → recordBytes (skipRecord column row) ≡ joined (number column ∷ number row ∷ number 0 ∷ [])
-unfolding skipRecord if_then_else_
-skip-parts column row = record-parts (skipRecord column row)
+unfolding recordBytes skipRecord if_then_else_
+skip-parts column row = simp (append-assoc, append-nil)
 
 pub skip-length : (column row : ℕ) → column < 4096 → row < 4096 → length (recordBytes (skipRecord column row)) ≤ 2089
 unfolding skipRecord

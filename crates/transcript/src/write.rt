@@ -221,21 +221,18 @@ fn put_rest(out: &mut [u8], vectors: &[i32], levels: &[i32], at: usize, head: He
     put_items(out, levels, p, head.pattern as u8)
 }
 
-// Writes a record from a place on, and answers the place after it.
-pub fn put_record(out: &mut [u8], vectors: &[i32], levels: &[i32], at: usize, head: Head) -> usize
-    requires { ⌜ HeadRange head × (length (now vectors) ≡ 32) × (length (now levels) ≡ 392) × (at + 2089 ≤ length (now out)) ⌝ }
+// Writes a record that is no skip from a place on, and answers the place after it.
+pub fn put_coded(out: &mut [u8], vectors: &[i32], levels: &[i32], at: usize, head: Head) -> usize
+    requires { ⌜ HeadRange head × (0 < head .mode) × (length (now vectors) ≡ 32) × (length (now levels) ≡ 392) × (at + 2089 ≤ length (now out)) ⌝ }
     ensures { λ r. ⌜ Written (now (out .entry)) at (recordBytes (recordOf head (now (vectors .entry)) (now (levels .entry)))) r (now (out .exit)) ⌝ }
 {
     let p = put_number(out, at, head.column);
     let p = put_number(out, p, head.row);
     let p = put_number(out, p, head.mode);
-    if head.mode == 0 {
-        return p;
-    }
     put_rest(out, vectors, levels, p, head)
 }
 
-// The same of a skipped macroblock, which has a place and a mode alone.
+// The same of a skip, which has a place and a mode alone.
 pub fn put_skip(out: &mut [u8], at: usize, column: u32, row: u32) -> usize
     requires { ⌜ (column < 4096) × (row < 4096) × (at + 2089 ≤ length (now out)) ⌝ }
     ensures { λ r. ⌜ Written (now (out .entry)) at (recordBytes (skipRecord column row)) r (now (out .exit)) ⌝ }

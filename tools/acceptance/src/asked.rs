@@ -3,7 +3,7 @@
 use crate::case::Case;
 use crate::compare::RECORD;
 use crate::draw::Draw;
-use crate::ours::{BEFORE, Start, Told, call_list};
+use crate::ours::{BEFORE, OUTPUT_ROOM, Start, Told, call_list};
 use crate::tally::Tally;
 
 /// What one call is given besides the start.
@@ -88,13 +88,13 @@ struct Asked<'a> {
 }
 
 impl Asked<'_> {
-    /// An entry's answer: the number that is due, counts as due, and nothing changed.
+    /// An entry's answer: minus the number that is due, counts as due, and nothing changed.
     fn is(&self, entry: &str, due: i64, told: Told, counts: &[u64], left: &Start) -> Result<(), String> {
-        if told.code == due && told.counts == counts && left == self.start {
+        if told.code == -due && told.counts == counts && left == self.start {
             return Ok(());
         }
         let kept = if left == self.start { "nothing" } else { "something" };
-        Err(format!("{entry} answers {told:?} where {due} and {counts:?} are due, {kept} changed"))
+        Err(format!("{entry} answers {told:?} where -{due} and {counts:?} are due, {kept} changed"))
     }
 
     /// One call, and the same as the first of a run.
@@ -131,6 +131,10 @@ impl Asked<'_> {
         let told = left.replay(&[], 2);
         self.is("svq3_replay", due, told, &[0, quantiser], &left)?;
         tally.add("first question answered with no (0 none)", format!("{due} of a replay"));
+        let due = if (1..=4096).contains(&left.cols) && (1..=4096).contains(&left.rows) { 0 } else { 1 };
+        if left.check(&[]) != -due {
+            return Err(format!("svq3_check_transcript answers {} where -{due} is due", left.check(&[])));
+        }
         Ok(())
     }
 }
@@ -206,7 +210,7 @@ fn another_length(of: &mut Vec<u8>, draw: &mut Draw) {
     }
 }
 
-/// Fewer counts than an entry writes: -1, and nothing is done.
+/// Fewer counts than an entry writes: nothing is done.
 fn short_counts(case: &Case, draw: &mut Draw, tally: &mut Tally) -> Result<(), String> {
     if draw.below(8) != 0 {
         return Ok(());
@@ -219,7 +223,7 @@ fn short_counts(case: &Case, draw: &mut Draw, tally: &mut Tally) -> Result<(), S
         1 => ours.run(&[0, 0, 0], &case.run.bits, case.run.place, n),
         _ => ours.replay(&[0, 0, 0], n % 2),
     };
-    if told.code != -1 || ours != s || told.counts.iter().any(|&count| count != BEFORE) {
+    if told.code != OUTPUT_ROOM || ours != s || told.counts.iter().any(|&count| count != BEFORE) {
         return Err(format!("{n} counts: {told:?}\n{}", case.line()));
     }
     tally.add("counts too short", "refused");

@@ -96,8 +96,8 @@ impl Walk<'_> {
         } else {
             theirs(&mut self.access, &mut self.reader, call, tally)
         };
-        if told.code != code {
-            return Err(format!("ours answers {}, {code} is due (detail {detail})", told.code));
+        if told.code != -code {
+            return Err(format!("ours answers {}, -{code} is due (detail {detail})", told.code));
         }
         if code != 0 {
             return self.refused(before, &told.counts, code, detail);
@@ -205,8 +205,8 @@ fn run_at_once(case: &Case, start: &Start, stop: &Stop, tally: &mut Tally) -> Re
     // A run with no call asks the questions on the start all the same.
     let code = if case.calls.is_empty() && run.reference.is_none() { 3 } else { stop.code };
     let counts = [stop.accepted, stop.place - run.place, stop.fill, stop.left.quantiser.into(), stop.detail as u64];
-    if told.code != code || told.counts != counts {
-        return Err(format!("the run answers {told:?} where {code} and {counts:?} are due\n{}", case.line()));
+    if told.code != -code || told.counts != counts {
+        return Err(format!("the run answers {told:?} where -{code} and {counts:?} are due\n{}", case.line()));
     }
     if ours != stop.left {
         return Err(format!("the run leaves another state than its calls\n{}", case.line()));
@@ -226,6 +226,9 @@ fn replayed(case: &Case, start: &Start, stop: &Stop, draw: &mut Draw, tally: &mu
     if told.code != 0 || told.counts != [stop.accepted, stop.left.quantiser.into()] {
         return Err(format!("the replay of {} answers {told:?}\n{}", hex(transcript), case.line()));
     }
+    if start.check(transcript) != stop.accepted as i64 {
+        return Err(format!("the check of {} answers {}\n{}", hex(transcript), start.check(transcript), case.line()));
+    }
     ours.quantiser = stop.left.quantiser;
     if let Some(what) = ours.differs(&stop.left) {
         return Err(format!("the replay of {} leaves other {what}\n{}", hex(transcript), case.line()));
@@ -244,7 +247,7 @@ fn replayed(case: &Case, start: &Start, stop: &Stop, draw: &mut Draw, tally: &mu
     let mut ours = start.clone();
     let told = ours.replay(&damaged, 2);
     if told.code != 0
-        && (ours != *start || told.counts != [0, start.quantiser.into()] || ![14, 15].contains(&told.code))
+        && (ours != *start || told.counts != [0, start.quantiser.into()] || ![-14, -15].contains(&told.code))
     {
         return Err(format!(
             "the refused replay of {} answers {told:?} or changes something\n{}",
@@ -252,7 +255,11 @@ fn replayed(case: &Case, start: &Start, stop: &Stop, draw: &mut Draw, tally: &mu
             case.line()
         ));
     }
-    tally.add("damaged transcript", if told.code == 0 { "accepted".into() } else { format!("refused {}", told.code) });
+    let checked = if told.code == 0 { told.counts[0] as i64 } else { told.code };
+    if start.check(&damaged) != checked {
+        return Err(format!("the check of {} answers {}\n{}", hex(&damaged), start.check(&damaged), case.line()));
+    }
+    tally.add("damaged transcript", if told.code == 0 { "accepted".into() } else { format!("refused {}", -told.code) });
     Ok(())
 }
 

@@ -1,4 +1,4 @@
-//! The proved library behind its C entries (include/svq3_acceptance.h).
+//! The proved library behind its C entries (include/svq3_desk.h).
 
 use crate::run::Run;
 
@@ -27,6 +27,7 @@ unsafe extern "C" {
         mv: *mut i32, mv_len: usize, marks: *mut u8, marks_len: usize,
         transcript: *const u8, transcript_len: usize, counts: *mut u64, counts_len: usize,
     ) -> i64;
+    fn svq3_check_transcript(cols: u64, rows: u64, bytes: *const u8, len: usize) -> i64;
 }
 
 /// All that is lent to a call, or that one is told of the start.
@@ -44,12 +45,15 @@ pub struct Start {
     pub transcript: Vec<u8>,
 }
 
-/// What an entry answered, and its counts.
+/// What an entry answered: 0, or minus the refusal's number; and its counts.
 #[derive(Debug, PartialEq)]
 pub struct Told {
     pub code: i64,
     pub counts: Vec<u64>,
 }
+
+/// The answer where there are fewer counts than an entry writes.
+pub const OUTPUT_ROOM: i64 = -18;
 
 /// What the counts hold before a call.
 pub const BEFORE: u64 = 0x5a5a;
@@ -131,6 +135,12 @@ impl Start {
         Told { code, counts }
     }
 
+    /// The number of a transcript's records, or minus the refusal's number.
+    pub fn check(&self, transcript: &[u8]) -> i64 {
+        // SAFETY: as above.
+        unsafe { svq3_check_transcript(self.cols, self.rows, transcript.as_ptr(), transcript.len()) }
+    }
+
     /// Place by place, what differs from another state: the pictures, vectors, marks and the quantiser.
     pub fn differs(&self, other: &Self) -> Option<&'static str> {
         let pairs = [
@@ -148,8 +158,13 @@ impl Start {
 
 /// A list of calls in number form.
 pub fn call_list(calls: &[[u32; 3]]) -> Vec<u8> {
+    numbers(calls.iter().flatten().copied())
+}
+
+/// Numbers one after another in number form.
+pub fn numbers(all: impl IntoIterator<Item = u32>) -> Vec<u8> {
     let mut bytes = Vec::new();
-    for &number in calls.iter().flatten() {
+    for number in all {
         let mut rest = number;
         while rest >= 128 {
             bytes.push(rest as u8 | 128);

@@ -27,7 +27,7 @@ pub fn answer(line: &str) -> Result<String, String> {
         format!("marks={}", hex(&ours.marks)),
     ];
     if told.code != 0 {
-        words.push(format!("refused={}:{}", told.code, told.counts[4] as i64));
+        words.push(format!("refused={}:{}", -told.code, told.counts[4] as i64));
     }
     Ok(words.join(" "))
 }

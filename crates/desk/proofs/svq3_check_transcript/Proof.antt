@@ -1,11 +1,10 @@
--- `desk::svq3_check_transcript` meets its contract: the count of records fits, for a record has a byte at least.
+-- `svq3_check_transcript`: the count of records fits, for a record has a byte at least.
 use mathlib.Core.Path.{_≡_, sym, ap, _∙_}
 use mir.Syntax.{w64}
 use mir.Facts.{toZ-pos}
 use native.Mathlib.Omega.{arith}
 use borrow.Author.Needs.{needs}
-use Rattle.ints.proofs.Fits.{signed}
-use Rattle.ints.proofs.Same.{reads}
+use Rattle.ints.proofs.Fits.{back}
 use Rattle.checking.specs.Check.{checked}
 use Rattle.checking.specs.declared.CheckAnswer.{CheckAnswer}
 use Rattle.desk.specs.Answer.{checkCode}
@@ -20,16 +19,11 @@ answered c = let a = c .before .before .before .before .args in by-sides (a .col
 cast-result : tie.Need-cast-result
 cast-result c = record { sfits = omega (arith, few-records _ _ _ (sym (c .before .n .given .1) ∙ answered (c .before .before .before))) }
 
-sub-result : tie.Need-sub-result
-sub-result c = search signed depth 20
-
 returns : tie.Need-returns
 returns c = toZ-pos w64 (omega (arith, few-records _ _ _ (sym (c .before .n .given .1) ∙ answered (c .before .before .before)))) ∙ ap checkCode (sym (c .before .n .given .1) ∙ answered (c .before .before .before))
 
 returns-2 : tie.Need-returns-2
-returns-2 c =
-    let e = sym (c .before .before .why .given .1) ∙ answered (c .before .before .before .before) in
-    rw (← e, ← c .number-of .ensures) (search reads depth 20)
+returns-2 c = back w64 (c .refused .ok) (c .refused .ensures) ∙ ap checkCode (sym (c .before .before .why .given .1) ∙ answered (c .before .before .before .before))
 
 pub svq3-check-transcript-spec : {M : Type 1} → statement M
 svq3-check-transcript-spec =
@@ -42,7 +36,5 @@ svq3-check-transcript-spec =
     cast-result
     (λ c. search needs)
     (λ c κs. search needs)
-    (λ c. search needs)
-    sub-result
     returns
     returns-2)

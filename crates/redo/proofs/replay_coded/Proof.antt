@@ -4,7 +4,7 @@ use denote.Ref.{now}
 use Rattle.record.specs.Record.{recordOf, noVectors, noLevels}
 use Rattle.outcome.specs.State.{State}
 use Rattle.outcome.specs.Entry.{stateOf}
-use Rattle.redo.proofs.Steps.{in-place, no-motion, coded-range, coded-step, applied-is}
+use Rattle.redo.proofs.Steps.{in-place, no-motion, coded-range, no-skip, coded-step, applied-is}
 use borrow.Author.Needs.{needs}
 use Rattle.redo.proofs.replay_coded.Statement.{statement}
 use Rattle.redo.proofs.replay_coded.Tie as tie
@@ -23,19 +23,31 @@ returns c =
     let s = c .before .before .before .before .before .before .before .before .before .before .before .before .before .before .before in
     no-motion (S s) (s .args .bytes .now) (s .args .at) (s .args .head) (s .args .next) (s .pre .0 .2) (s .pre .0 .3) _ _ _ (c .before .before .before .before .parse-motion .ensures) _ (c .enum-told .given .1) _ _
 
-apply-record-requires : tie.Need-apply-record-requires
-apply-record-requires c κs =
+apply-coded-requires : tie.Need-apply-coded-requires
+apply-coded-requires c κs =
     let s = c .before .before .before .before .before .before .before .before .before .before .before .before .before .before .before .before .before .before .before .before .before .before .before .before .before in
     let m = c .before .before .before .before .before .before .before .before .before .before .before .before .before .before .parse-motion in
-    ((s .pre .0 .0, s .pre .0 .1, coded-range (S s) (s .args .bytes .now) (s .args .at) (s .args .head) (s .args .next) (s .pre .0 .2) (s .pre .0 .3) _ _ _ (m .ensures) _ _ (c .before .before .before .before .before .before .before .before .before .before .coded .given .1) (s .pre .0 .0) (s .pre .0 .1), m .kept .0, m .kept .1 .0), s .pre .1)
+    let is = c .before .before .before .before .before .before .before .before .before .before .coded .given .1 in (
+      (
+        s .pre .0 .0,
+        s .pre .0 .1,
+        coded-range (S s) (s .args .bytes .now) (s .args .at) (s .args .head) (s .args .next) (s .pre .0 .2) (s .pre .0 .3) _ _ _ (m .ensures) _ _ is (s .pre .0 .0) (s .pre .0 .1),
+        no-skip (S s) (s .args .bytes .now) (s .args .at) (s .args .head) (s .args .next) (s .pre .0 .2) (s .pre .0 .3) _ _ _ (m .ensures) _ _ is,
+        m .kept .0,
+        m .kept .1 .0,
+      ),
+      s .pre .1,
+    )
 
 returns-2 : tie.Need-returns-2
 returns-2 c =
-    let s = c .before .before .before .before .before .before .before .before .before .before .before .before .before .before .before .before .before .before .before .before .before .before .before .before .before .before .before .before .before .before .before .before .before .before .before .before in
-    let m = c .before .before .before .before .before .before .before .before .before .before .before .before .before .before .before .before .before .before .before .before .before .before .before .before .before .parse-motion in
-    let a = c .before .before .before .before .before .before .before .before .before .before .apply-record in
-    coded-step (S s) (s .args .bytes .now) (s .args .at) (s .args .head) (s .args .next) (s .pre .0 .2) (s .pre .0 .3) _ _ _ (m .ensures) _ _ (c .before .before .before .before .before .before .before .before .before .before .before .before .before .before .before .before .before .before .before .before .before .coded .given .1) (stateOf (s .args .frame) (c .quantiser-after .result) (now (s .args .ry)) (now (s .args .rcb)) (now (s .args .rcr)) (a .last .0) (a .last .1 .0) (a .last .1 .1 .0) (a .last .1 .1 .1 .0) (a .last .1 .1 .1 .1 .0))
-    (applied-is (S s) (recordOf (c .before .before .before .before .before .before .before .before .before .before .before .before .before .before .before .before .before .before .before .before .before .coded .given .0 .0) (m .last .0) (m .last .1 .0)) (c .quantiser-after .ensures) (a .ensures .0) (a .ensures .1 .0) (a .ensures .1 .1 .0) (a .ensures .1 .1 .1 .0) (a .ensures .1 .1 .1 .1))
+    let s = c .before .before .before .before .before .before .before .before .before .before .before .before .before .before .before .before .before .before .before .before .before .before .before .before .before .before .before .before .before .before .before .before .before .before .before in
+    let m = c .before .before .before .before .before .before .before .before .before .before .before .before .before .before .before .before .before .before .before .before .before .before .before .before .parse-motion in
+    let a = c .before .before .before .before .before .before .before .before .before .apply-coded in
+    let coded = c .before .before .before .before .before .before .before .before .before .before .before .before .before .before .before .before .before .before .before .before .coded .given .0 .0 in
+    let is = c .before .before .before .before .before .before .before .before .before .before .before .before .before .before .before .before .before .before .before .before .coded .given .1 in
+    coded-step (S s) (s .args .bytes .now) (s .args .at) (s .args .head) (s .args .next) (s .pre .0 .2) (s .pre .0 .3) _ _ _ (m .ensures) _ _ is (stateOf (s .args .frame) (coded .quantiser) (now (s .args .ry)) (now (s .args .rcb)) (now (s .args .rcr)) (a .last .0) (a .last .1 .0) (a .last .1 .1 .0) (a .last .1 .1 .1 .0) (a .last .1 .1 .1 .1 .0))
+    (applied-is (S s) (recordOf coded (m .last .0) (m .last .1 .0)) (no-skip (S s) (s .args .bytes .now) (s .args .at) (s .args .head) (s .args .next) (s .pre .0 .2) (s .pre .0 .3) _ _ _ (m .ensures) _ _ is) (a .ensures .0) (a .ensures .1 .0) (a .ensures .1 .1 .0) (a .ensures .1 .1 .1 .0) (a .ensures .1 .1 .1 .1))
 
 pub replay-coded-spec : {M : Type 1} → statement M
 replay-coded-spec =
@@ -51,11 +63,10 @@ replay-coded-spec =
     (λ c. search needs)
     (λ c. search needs)
     (λ c. search needs)
-    apply-record-requires
-    (λ c κs. tt)
-    (λ c. c .before .before .before .before .before .before .before .before .before .before .apply-record .kept .0)
-    (λ c. c .before .before .before .before .before .before .before .before .before .before .apply-record .kept .1 .0)
-    (λ c. c .before .before .before .before .before .before .before .before .before .before .apply-record .kept .1 .1 .0)
-    (λ c. c .before .before .before .before .before .before .before .before .before .before .apply-record .kept .1 .1 .1 .0)
-    (λ c. c .before .before .before .before .before .before .before .before .before .before .apply-record .kept .1 .1 .1 .1 .0)
+    apply-coded-requires
+    (λ c. c .before .before .before .before .before .before .before .before .before .apply-coded .kept .0)
+    (λ c. c .before .before .before .before .before .before .before .before .before .apply-coded .kept .1 .0)
+    (λ c. c .before .before .before .before .before .before .before .before .before .apply-coded .kept .1 .1 .0)
+    (λ c. c .before .before .before .before .before .before .before .before .before .apply-coded .kept .1 .1 .1 .0)
+    (λ c. c .before .before .before .before .before .before .before .before .before .apply-coded .kept .1 .1 .1 .1 .0)
     returns-2)

@@ -3,6 +3,7 @@ use mathlib.Core.Path.{_≡_, sym, _∙_}
 use denote.Ref.{now}
 use Rattle.outcome.specs.State.{State}
 use Rattle.outcome.specs.Entry.{stateOf}
+use Rattle.outcome.proofs.Laws.{some-mode}
 use Rattle.redo.proofs.Steps.{no-place, in-place, skip-step, skip-applied}
 use borrow.Author.Needs.{needs}
 use Rattle.redo.proofs.replay_record.Statement.{statement}
@@ -32,7 +33,7 @@ returns-2 c =
 replay-coded-requires : tie.Need-replay-coded-requires
 replay-coded-requires c κs =
     let s = c .before .before .before .before .before .before .before .before .before .before .before .before .before .before .before .before .before .before .before in
-    ((s .pre .0 .0, s .pre .0 .1, (sym (c .before .before .before .before .before .before .before .before .head .given .1) ∙ c .before .before .before .before .before .before .before .before .before .before .parse-place .ensures), c .before .before .before .before .before .if1 .left), s .pre .1)
+    ((s .pre .0 .0, s .pre .0 .1, (sym (c .before .before .before .before .before .before .before .before .head .given .1) ∙ c .before .before .before .before .before .before .before .before .before .before .parse-place .ensures), some-mode _ (c .before .before .before .before .before .if1 .left)), s .pre .1)
 
 pub replay-record-spec : {M : Type 1} → statement M
 replay-record-spec =

@@ -25,7 +25,7 @@ lies : (c : tie.After-mix-row-arg Inv-loop μ-loop) → let a = c .before .befor
 lies c = let s = c .before .before .before .before .before in (inside-row (s .pre .1 .0) (c .before .loop-test .taken), more (s .args .stride) (c .before .loop-test .taken))
 
 mix-row-requires : tie.Need-mix-row-requires Inv-loop μ-loop
-mix-row-requires c κs = (c .before .before .before .before .before .pre .0 .fair, omega (arith, lies c), omega (arith, lies c))
+mix-row-requires c κs = (c .before .before .before .before .before .pre .0 .weights, omega (arith, lies c), omega (arith, lies c))
 
 loop-again : tie.Need-loop-again Inv-loop μ-loop
 unfolding mixedBlock

@@ -28,5 +28,5 @@ both-8x1-spec =
     (λ c. search needs)
     (λ c. search needs)
     (λ c κs. search needs)
-    (λ c κs. c .before .before .before .before .before .before .before .before .before .pre .0 .fair)
+    (λ c κs. c .before .before .before .before .before .before .before .before .before .pre .0 .weights)
     returns)

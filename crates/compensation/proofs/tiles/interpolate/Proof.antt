@@ -21,7 +21,7 @@ mix-of-requires : tie.Need-mix-of-requires
 mix-of-requires c κs = let s = c .before .before .before .before in (s .pre .2, s .pre .3)
 
 mix-one-requires : tie.Need-mix-one-requires
-mix-one-requires c κs = (c .before .mix-of .ensures .even, (c .before .before .before .before .before .before .pre .1, room (c .before .before)))
+mix-one-requires c κs = (c .before .mix-of .ensures .square, (c .before .before .before .before .before .before .pre .1, room (c .before .before)))
 
 returns : tie.Need-returns
 returns c =

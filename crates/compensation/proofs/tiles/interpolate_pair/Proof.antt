@@ -25,7 +25,7 @@ mix-of-requires c κs = let s = c .before .before .before .before .before .befor
 mix-pair-requires : tie.Need-mix-pair-requires
 mix-pair-requires c κs =
     let s = c .before .before .before .before .before .before .before .before .before in
-    (c .before .before .mix-of .ensures .even, ((s .pre .0 .1, s .pre .0 .2), (cb-room (c .before .before .before), cr-room (c .before .before .before))))
+    (c .before .before .mix-of .ensures .square, ((s .pre .0 .1, s .pre .0 .2), (cb-room (c .before .before .before), cr-room (c .before .before .before))))
 
 returns : tie.Need-returns
 returns c =
