@@ -1,11 +1,8 @@
 // A macroblock that is no skip.
 ghost use mathlib.Core.Path.{_≡_};
-ghost use Prim.Native.Nat.{_-_, _<_};
-ghost use lib.ListN.{length};
-ghost use Rattle.questions.specs.Questions.{askCall};
-ghost use Rattle.outcome.specs.State.{lengthsOf};
-ghost use Rattle.outcome.specs.Decode.{decoded};
-ghost use Rattle.outcome.specs.Entry.{stateOf, quantiserBy, left};
+ghost use Prim.Native.Nat.{_<_};
+ghost use Rattle.outcome.specs.Decode.{asked, decoded};
+ghost use Rattle.outcome.specs.Entry.{stateNow, stateBefore, stateAfter, quantiserBy, left};
 use apply::applied::apply_coded;
 use outcome::Frame;
 use outcome::MbAnswer;
@@ -33,9 +30,9 @@ pub fn decode_coded(
     place: usize,
     fill: usize,
 ) -> MbAnswer
-    requires { ⌜ askCall (frame .cols) (frame .rows) (lengthsOf (stateOf frame quantiser (now ry) (now rcb) (now rcr) (now y) (now cb) (now cr) (now mv) (now marks))) call quantiser (length (now bits)) place (length (now transcript) - fill) ≡ Asked.Yes ⌝ }
+    requires { ⌜ asked (stateNow frame quantiser ry rcb rcr y cb cr mv marks) call (now bits) place (now transcript) fill ≡ Asked.Yes ⌝ }
     requires { ⌜ 0 < call .mode ⌝ }
-    ensures { λ r. ⌜ left r (stateOf frame (quantiserBy quantiser r) (now (ry .entry)) (now (rcb .entry)) (now (rcr .entry)) (now (y .exit)) (now (cb .exit)) (now (cr .exit)) (now (mv .exit)) (now (marks .exit))) (now (transcript .exit)) ≡ decoded (stateOf frame quantiser (now (ry .entry)) (now (rcb .entry)) (now (rcr .entry)) (now (y .entry)) (now (cb .entry)) (now (cr .entry)) (now (mv .entry)) (now (marks .entry))) call (now (bits .entry)) place (now (transcript .entry)) fill ⌝ }
+    ensures { λ r. ⌜ left r (stateAfter frame (quantiserBy quantiser r) ry rcb rcr y cb cr mv marks) (now (transcript .exit)) ≡ decoded (stateBefore frame quantiser ry rcb rcr y cb cr mv marks) call (now (bits .entry)) place (now (transcript .entry)) fill ⌝ }
 {
     let mut vectors = [0i32; 32];
     let mut levels = [0i32; 392];

@@ -16,13 +16,13 @@ use Rattle.outcome.specs.declared.Frame.{Frame}
 use Rattle.outcome.specs.declared.MbAnswer.{MbAnswer}
 use Rattle.report.specs.Left.{leftOf, listLeft}
 use Rattle.report.specs.declared.Report.{Report}
-use Rattle.replay.specs.Replay.{replayLeft, replayed}
+use Rattle.replay.specs.Replay.{quantiserOf, replayLeft, replayed}
 use Rattle.replay.specs.declared.ReplayAnswer.{ReplayAnswer}
 use Rattle.desk.specs.Answer.{outputRoom, mbCode, stopCode, replayCode}
 use Rattle.desk.specs.Counts.{mbCounts, runCounts, replayCounts}
-use Rattle.desk.specs.Entries.{Slices, Ended, ended, startOf, unlessShort, mbTelling, runTelling, replayTelling, mbEnded, runEnded, replayEnded}
+use Rattle.desk.specs.Entries.{Slices, Ended, slicesOf, ended, unlessShort, mbTelling, runTelling, replayTelling, mbEnded, runEnded, replayEnded}
 
-too-short : (n : ℕ) (s : Slices) (done : Ended) → length (s .counts) < n → record { code = outputRoom; slices = s } ≡ unlessShort n s done
+too-short : (n : ℕ) (s : Slices) (done : Ended) → length (s .counts) < n → ended outputRoom s ≡ unlessShort n s done
 unfolding if_then_else_
 too-short n s done h = rw (lt-ltb _ _ h)
 
@@ -30,19 +30,23 @@ long-enough : (n : ℕ) (s : Slices) (done : Ended) → n ≤ length (s .counts)
 unfolding if_then_else_
 long-enough n s done h = rw (le-ltb _ _ h)
 
+-- the state that the slices make
+abbrev startOf : Frame → ℕ → List ℕ → List ℕ → List ℕ → Slices → State
+startOf frame quantiser ry rcb rcr s = stateOf frame quantiser ry rcb rcr (s .y) (s .cb) (s .cr) (s .mv) (s .marks)
+
 module _ (frame : Frame) (q : ℕ) (ry rcb rcr : List ℕ) (s : Slices) where
   abbrev start : State
   start = startOf frame q ry rcb rcr s
 
-  pub mb-short : (call : Call) (bits : List ℕ) (place fill : ℕ) → length (s .counts) < 5 → record { code = outputRoom; slices = s } ≡ mbEnded start s call bits place fill
+  pub mb-short : (call : Call) (bits : List ℕ) (place fill : ℕ) → length (s .counts) < 5 → ended outputRoom s ≡ mbEnded start s call bits place fill
   unfolding mbEnded
   mb-short call bits place fill h = too-short 5 s _ h
 
-  pub run-short : (calls bits : List ℕ) (place : ℕ) → length (s .counts) < 5 → record { code = outputRoom; slices = s } ≡ runEnded start s calls bits place
+  pub run-short : (calls bits : List ℕ) (place : ℕ) → length (s .counts) < 5 → ended outputRoom s ≡ runEnded start s calls bits place
   unfolding runEnded
   run-short calls bits place h = too-short 5 s _ h
 
-  pub replay-short : length (s .counts) < 2 → record { code = outputRoom; slices = s } ≡ replayEnded start s
+  pub replay-short : length (s .counts) < 2 → ended outputRoom s ≡ replayEnded start s
   unfolding replayEnded
   replay-short h = too-short 2 s _ h
 
@@ -51,31 +55,31 @@ module _ (frame : Frame) (q : ℕ) (ry rcb rcr : List ℕ) (s : Slices) where
         → left answer (stateOf f (quantiserBy q answer) ry rcb rcr y cb cr mv marks) transcript ≡ decoded (startOf f q ry rcb rcr s) call bits place (s .transcript) fill
         → code ≡ mbCode answer
         → counts ≡ sets (s .counts) 0 (mbCounts answer place q fill)
-        → ended code y cb cr mv marks transcript counts ≡ mbEnded start s call bits place fill
+        → ended code (slicesOf y cb cr mv marks transcript counts) ≡ mbEnded start s call bits place fill
     unfolding mbEnded
     mb-done call bits place fill answer enough e told written =
-        (λ i. ended (told i) y cb cr mv marks transcript (written i))
+        (λ i. ended (told i) (slicesOf y cb cr mv marks transcript (written i)))
         ∙ ap (mbTelling place q fill (s .counts)) (e ∙ ap (λ (g : Frame). decoded (startOf g q ry rcb rcr s) call bits place (s .transcript) fill) is)
         ∙ long-enough 5 s _ enough
 
     pub run-done : (calls bits : List ℕ) (place : ℕ) (r : Report) → 5 ≤ length (s .counts)
-        → leftOf r f ry rcb rcr y cb cr mv marks transcript ≡ listLeft (startOf f q ry rcb rcr s) calls bits place (s .transcript)
+        → leftOf r (stateOf f (r .quantiser) ry rcb rcr y cb cr mv marks) transcript ≡ listLeft (startOf f q ry rcb rcr s) calls bits place (s .transcript)
         → code ≡ stopCode (r .stop)
         → counts ≡ sets (s .counts) 0 (runCounts r)
-        → ended code y cb cr mv marks transcript counts ≡ runEnded start s calls bits place
+        → ended code (slicesOf y cb cr mv marks transcript counts) ≡ runEnded start s calls bits place
     unfolding runEnded
     run-done calls bits place r enough e told written =
-        (λ i. ended (told i) y cb cr mv marks transcript (written i))
+        (λ i. ended (told i) (slicesOf y cb cr mv marks transcript (written i)))
         ∙ ap (runTelling (s .counts)) (e ∙ ap (λ (g : Frame). listLeft (startOf g q ry rcb rcr s) calls bits place (s .transcript)) is)
         ∙ long-enough 5 s _ enough
 
     pub replay-done : (r : ReplayAnswer) → 2 ≤ length (s .counts)
-        → replayLeft r f q ry rcb rcr y cb cr mv marks ≡ replayed (startOf f q ry rcb rcr s) (s .transcript)
+        → replayLeft r (stateOf f (quantiserOf q r) ry rcb rcr y cb cr mv marks) ≡ replayed (startOf f q ry rcb rcr s) (s .transcript)
         → code ≡ replayCode r
         → counts ≡ sets (s .counts) 0 (replayCounts r q)
-        → ended code y cb cr mv marks (s .transcript) counts ≡ replayEnded start s
+        → ended code (slicesOf y cb cr mv marks (s .transcript) counts) ≡ replayEnded start s
     unfolding replayEnded
     replay-done r enough e told written =
-        (λ i. ended (told i) y cb cr mv marks (s .transcript) (written i))
+        (λ i. ended (told i) (slicesOf y cb cr mv marks (s .transcript) (written i)))
         ∙ ap (replayTelling q (s .transcript) (s .counts)) (e ∙ ap (λ (g : Frame). replayed (startOf g q ry rcb rcr s) (s .transcript)) is)
         ∙ long-enough 2 s _ enough

@@ -10,8 +10,7 @@ use Rattle.ints.specs.Z.{if_then_else_}
 use Rattle.questions.specs.declared.Call.{Call}
 use Rattle.outcome.specs.State.{State}
 use Rattle.outcome.specs.Decode.{Outcome, decoded}
-use Rattle.outcome.specs.Entry.{stateOf}
-use Rattle.outcome.specs.declared.Frame.{Frame}
+use Rattle.outcome.specs.Entry.{Lent}
 use Rattle.report.specs.Left.{Left, listLeft}
 use Rattle.replay.specs.Replay.{Replay, replayed}
 use Rattle.desk.specs.Answer.{outputRoom, mbCode, stopCode, replayCode}
@@ -34,24 +33,27 @@ pub record Ended : Type 0 where
 abbrev pub slicesOf : List ℕ → List ℕ → List ℕ → List ℤ → List ℕ → List ℕ → List ℕ → Slices
 slicesOf y cb cr mv marks transcript counts = record { y = y; cb = cb; cr = cr; mv = mv; marks = marks; transcript = transcript; counts = counts }
 
+-- at entry and at exit, in an `ensures`
+abbrev pub slicesBefore : Lent (List ℕ) → Lent (List ℕ) → Lent (List ℕ) → Lent (List ℤ) → Lent (List ℕ) → Lent (List ℕ) → Lent (List ℕ) → Slices
+slicesBefore y cb cr mv marks transcript counts = slicesOf (y .entry .now) (cb .entry .now) (cr .entry .now) (mv .entry .now) (marks .entry .now) (transcript .entry .now) (counts .entry .now)
+
+abbrev pub slicesAfter : Lent (List ℕ) → Lent (List ℕ) → Lent (List ℕ) → Lent (List ℤ) → Lent (List ℕ) → Lent (List ℕ) → Lent (List ℕ) → Slices
+slicesAfter y cb cr mv marks transcript counts = slicesOf (y .exit .now) (cb .exit .now) (cr .exit .now) (mv .exit .now) (marks .exit .now) (transcript .exit .now) (counts .exit .now)
+
 -- as the code has it
-abbrev pub ended : ℤ → List ℕ → List ℕ → List ℕ → List ℤ → List ℕ → List ℕ → List ℕ → Ended
-ended code y cb cr mv marks transcript counts = record { code = code; slices = slicesOf y cb cr mv marks transcript counts }
+abbrev pub ended : ℤ → Slices → Ended
+ended code s = record { code = code; slices = s }
 
 abbrev pub callOf : ℕ → ℕ → ℕ → Call
 callOf column row mode = record { column = column; row = row; mode = mode }
 
--- the state that the slices make
-abbrev pub startOf : Frame → ℕ → List ℕ → List ℕ → List ℕ → Slices → State
-startOf frame quantiser ry rcb rcr s = stateOf frame quantiser ry rcb rcr (s .y) (s .cb) (s .cr) (s .mv) (s .marks)
-
 -- an answer, the state, and the counts, which begin with those written
 abbrev pub telling : ℤ → State → List ℕ → List ℕ → List ℕ → Ended
-telling code s transcript counts written = ended code (s .y) (s .cb) (s .cr) (s .mv) (s .marks) transcript (sets counts 0 written)
+telling code s transcript counts written = ended code (slicesOf (s .y) (s .cb) (s .cr) (s .mv) (s .marks) transcript (sets counts 0 written))
 
 -- fewer counts than n: nothing is done
 abbrev pub unlessShort : ℕ → Slices → Ended → Ended
-unlessShort n s done = if ltb (length (s .counts)) n then record { code = outputRoom; slices = s } else done
+unlessShort n s done = if ltb (length (s .counts)) n then ended outputRoom s else done
 
 abbrev pub mbTelling : ℕ → ℕ → ℕ → List ℕ → Outcome → Ended
 mbTelling place quantiser fill counts o = telling (mbCode (o .answer)) (o .state) (o .transcript) counts (mbCounts (o .answer) place quantiser fill)

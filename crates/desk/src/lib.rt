@@ -3,9 +3,10 @@ ghost use mathlib.Core.Path.{_≡_};
 ghost use lib.ListN.{length};
 ghost use Rattle.compensation.specs.Block.{blockAnswer, blockOut};
 ghost use Rattle.checking.specs.Check.{checked};
+ghost use Rattle.outcome.specs.Entry.{stateBefore};
 ghost use Rattle.desk.specs.Given.{frameOf};
 ghost use Rattle.desk.specs.Answer.{blockCode, checkCode};
-ghost use Rattle.desk.specs.Entries.{slicesOf, ended, callOf, startOf, mbEnded, runEnded, replayEnded};
+ghost use Rattle.desk.specs.Entries.{slicesBefore, slicesAfter, ended, callOf, mbEnded, runEnded, replayEnded};
 use crate::given::frame_of;
 use crate::given::side;
 use crate::told::refused;
@@ -59,7 +60,7 @@ pub extern "C" fn svq3_macroblock(
     fill: u64,
     counts: &mut [u64],
 ) -> i64
-    ensures { λ r. ⌜ ended r (now (y .exit)) (now (cb .exit)) (now (cr .exit)) (now (mv .exit)) (now (marks .exit)) (now (transcript .exit)) (now (counts .exit)) ≡ mbEnded (startOf (frameOf cols rows flags delta) quantiser (now (ry .entry)) (now (rcb .entry)) (now (rcr .entry)) (slicesOf (now (y .entry)) (now (cb .entry)) (now (cr .entry)) (now (mv .entry)) (now (marks .entry)) (now (transcript .entry)) (now (counts .entry)))) (slicesOf (now (y .entry)) (now (cb .entry)) (now (cr .entry)) (now (mv .entry)) (now (marks .entry)) (now (transcript .entry)) (now (counts .entry))) (callOf column row mode) (now (bits .entry)) place fill ⌝ }
+    ensures { λ r. ⌜ ended r (slicesAfter y cb cr mv marks transcript counts) ≡ mbEnded (stateBefore (frameOf cols rows flags delta) quantiser ry rcb rcr y cb cr mv marks) (slicesBefore y cb cr mv marks transcript counts) (callOf column row mode) (now (bits .entry)) place fill ⌝ }
 {
     if counts.len() < MB_COUNTS {
         return OUTPUT_ROOM;
@@ -108,7 +109,7 @@ pub extern "C" fn svq3_run(
     transcript: &mut [u8],
     counts: &mut [u64],
 ) -> i64
-    ensures { λ r. ⌜ ended r (now (y .exit)) (now (cb .exit)) (now (cr .exit)) (now (mv .exit)) (now (marks .exit)) (now (transcript .exit)) (now (counts .exit)) ≡ runEnded (startOf (frameOf cols rows flags delta) quantiser (now (ry .entry)) (now (rcb .entry)) (now (rcr .entry)) (slicesOf (now (y .entry)) (now (cb .entry)) (now (cr .entry)) (now (mv .entry)) (now (marks .entry)) (now (transcript .entry)) (now (counts .entry)))) (slicesOf (now (y .entry)) (now (cb .entry)) (now (cr .entry)) (now (mv .entry)) (now (marks .entry)) (now (transcript .entry)) (now (counts .entry))) (now (calls .entry)) (now (bits .entry)) place ⌝ }
+    ensures { λ r. ⌜ ended r (slicesAfter y cb cr mv marks transcript counts) ≡ runEnded (stateBefore (frameOf cols rows flags delta) quantiser ry rcb rcr y cb cr mv marks) (slicesBefore y cb cr mv marks transcript counts) (now (calls .entry)) (now (bits .entry)) place ⌝ }
 {
     if counts.len() < RUN_COUNTS {
         return OUTPUT_ROOM;
@@ -150,7 +151,7 @@ pub extern "C" fn svq3_replay(
     transcript: &[u8],
     counts: &mut [u64],
 ) -> i64
-    ensures { λ r. ⌜ ended r (now (y .exit)) (now (cb .exit)) (now (cr .exit)) (now (mv .exit)) (now (marks .exit)) (now (transcript .entry)) (now (counts .exit)) ≡ replayEnded (startOf (frameOf cols rows 0 0) quantiser (now (ry .entry)) (now (rcb .entry)) (now (rcr .entry)) (slicesOf (now (y .entry)) (now (cb .entry)) (now (cr .entry)) (now (mv .entry)) (now (marks .entry)) (now (transcript .entry)) (now (counts .entry)))) (slicesOf (now (y .entry)) (now (cb .entry)) (now (cr .entry)) (now (mv .entry)) (now (marks .entry)) (now (transcript .entry)) (now (counts .entry))) ⌝ }
+    ensures { λ r. ⌜ ended r (slicesAfter y cb cr mv marks transcript counts) ≡ replayEnded (stateBefore (frameOf cols rows 0 0) quantiser ry rcb rcr y cb cr mv marks) (slicesBefore y cb cr mv marks transcript counts) ⌝ }
 {
     if counts.len() < REPLAY_COUNTS {
         return OUTPUT_ROOM;

@@ -1,11 +1,8 @@
 // A macroblock decoded into the picture, the vectors, the marks and the transcript.
 ghost use mathlib.Core.Path.{_≡_};
 ghost use Prim.Native.Nat.{_-_};
-ghost use lib.ListN.{length};
-ghost use Rattle.questions.specs.Questions.{askCall};
-ghost use Rattle.outcome.specs.State.{lengthsOf};
-ghost use Rattle.outcome.specs.Decode.{decoded};
-ghost use Rattle.outcome.specs.Entry.{stateOf, quantiserBy, left};
+ghost use Rattle.outcome.specs.Decode.{asked, decoded};
+ghost use Rattle.outcome.specs.Entry.{stateNow, stateBefore, stateAfter, quantiserBy, left};
 use apply::applied::apply_skip;
 use coded::decode_coded;
 use outcome::Frame;
@@ -41,9 +38,9 @@ fn decode_skip(
     place: usize,
     fill: usize,
 ) -> MbAnswer
-    requires { ⌜ askCall (frame .cols) (frame .rows) (lengthsOf (stateOf frame quantiser (now ry) (now rcb) (now rcr) (now y) (now cb) (now cr) (now mv) (now marks))) call quantiser (length (now bits)) place (length (now transcript) - fill) ≡ Asked.Yes ⌝ }
+    requires { ⌜ asked (stateNow frame quantiser ry rcb rcr y cb cr mv marks) call (now bits) place (now transcript) fill ≡ Asked.Yes ⌝ }
     requires { ⌜ call .mode ≡ 0 ⌝ }
-    ensures { λ r. ⌜ left r (stateOf frame (quantiserBy quantiser r) (now (ry .entry)) (now (rcb .entry)) (now (rcr .entry)) (now (y .exit)) (now (cb .exit)) (now (cr .exit)) (now (mv .exit)) (now (marks .exit))) (now (transcript .exit)) ≡ decoded (stateOf frame quantiser (now (ry .entry)) (now (rcb .entry)) (now (rcr .entry)) (now (y .entry)) (now (cb .entry)) (now (cr .entry)) (now (mv .entry)) (now (marks .entry))) call (now (bits .entry)) place (now (transcript .entry)) fill ⌝ }
+    ensures { λ r. ⌜ left r (stateAfter frame (quantiserBy quantiser r) ry rcb rcr y cb cr mv marks) (now (transcript .exit)) ≡ decoded (stateBefore frame quantiser ry rcb rcr y cb cr mv marks) call (now (bits .entry)) place (now (transcript .entry)) fill ⌝ }
 {
     let filled = put_skip(transcript, fill, call.column, call.row);
     apply_skip(
@@ -81,8 +78,8 @@ fn decode_asked(
     place: usize,
     fill: usize,
 ) -> MbAnswer
-    requires { ⌜ askCall (frame .cols) (frame .rows) (lengthsOf (stateOf frame quantiser (now ry) (now rcb) (now rcr) (now y) (now cb) (now cr) (now mv) (now marks))) call quantiser (length (now bits)) place (length (now transcript) - fill) ≡ Asked.Yes ⌝ }
-    ensures { λ r. ⌜ left r (stateOf frame (quantiserBy quantiser r) (now (ry .entry)) (now (rcb .entry)) (now (rcr .entry)) (now (y .exit)) (now (cb .exit)) (now (cr .exit)) (now (mv .exit)) (now (marks .exit))) (now (transcript .exit)) ≡ decoded (stateOf frame quantiser (now (ry .entry)) (now (rcb .entry)) (now (rcr .entry)) (now (y .entry)) (now (cb .entry)) (now (cr .entry)) (now (mv .entry)) (now (marks .entry))) call (now (bits .entry)) place (now (transcript .entry)) fill ⌝ }
+    requires { ⌜ asked (stateNow frame quantiser ry rcb rcr y cb cr mv marks) call (now bits) place (now transcript) fill ≡ Asked.Yes ⌝ }
+    ensures { λ r. ⌜ left r (stateAfter frame (quantiserBy quantiser r) ry rcb rcr y cb cr mv marks) (now (transcript .exit)) ≡ decoded (stateBefore frame quantiser ry rcb rcr y cb cr mv marks) call (now (bits .entry)) place (now (transcript .entry)) fill ⌝ }
 {
     if call.mode == 0 {
         decode_skip(
@@ -141,7 +138,7 @@ pub fn decode_inter_mb(
     place: usize,
     fill: usize,
 ) -> MbAnswer
-    ensures { λ r. ⌜ left r (stateOf frame (quantiserBy quantiser r) (now (ry .entry)) (now (rcb .entry)) (now (rcr .entry)) (now (y .exit)) (now (cb .exit)) (now (cr .exit)) (now (mv .exit)) (now (marks .exit))) (now (transcript .exit)) ≡ decoded (stateOf frame quantiser (now (ry .entry)) (now (rcb .entry)) (now (rcr .entry)) (now (y .entry)) (now (cb .entry)) (now (cr .entry)) (now (mv .entry)) (now (marks .entry))) call (now (bits .entry)) place (now (transcript .entry)) fill ⌝ }
+    ensures { λ r. ⌜ left r (stateAfter frame (quantiserBy quantiser r) ry rcb rcr y cb cr mv marks) (now (transcript .exit)) ≡ decoded (stateBefore frame quantiser ry rcb rcr y cb cr mv marks) call (now (bits .entry)) place (now (transcript .entry)) fill ⌝ }
 {
     // Read one by one and at once: a wide load of two numbers that were just stored apart would wait for every store before them.
     let column = call.column;

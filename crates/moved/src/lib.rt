@@ -1,7 +1,7 @@
 // The thin entries on a cursor made for the call: a function that the borrow checker covers cannot lend a struct, and calls these.
 ghost use mathlib.Core.Path.{_≡_};
 ghost use Rattle.outcome.specs.Decode.{decoded};
-ghost use Rattle.outcome.specs.Entry.{stateOf, left, cursorBy};
+ghost use Rattle.outcome.specs.Entry.{stateBefore, stateAfter, left, cursorBy};
 ghost use Rattle.report.specs.Left.{leftOf, listLeft};
 ghost use Rattle.thin.specs.Cursor.{cursorOf};
 use outcome::Cursor;
@@ -40,7 +40,7 @@ pub fn decode_moved(
     place: usize,
     fill: usize,
 ) -> MbMoved
-    ensures { λ r. ⌜ (left (r .answer) (stateOf frame (r .cursor .quantiser) (now (ry .entry)) (now (rcb .entry)) (now (rcr .entry)) (now (y .exit)) (now (cb .exit)) (now (cr .exit)) (now (mv .exit)) (now (marks .exit))) (now (transcript .exit)) ≡ decoded (stateOf frame quantiser (now (ry .entry)) (now (rcb .entry)) (now (rcr .entry)) (now (y .entry)) (now (cb .entry)) (now (cr .entry)) (now (mv .entry)) (now (marks .entry))) call (now (bits .entry)) place (now (transcript .entry)) fill) × (r .cursor ≡ cursorBy place quantiser (r .answer)) ⌝ }
+    ensures { λ r. ⌜ (left (r .answer) (stateAfter frame (r .cursor .quantiser) ry rcb rcr y cb cr mv marks) (now (transcript .exit)) ≡ decoded (stateBefore frame quantiser ry rcb rcr y cb cr mv marks) call (now (bits .entry)) place (now (transcript .entry)) fill) × (r .cursor ≡ cursorBy place quantiser (r .answer)) ⌝ }
 {
     let mut cursor = Cursor { place, quantiser };
     let answer = decode_inter_mb_at(
@@ -78,7 +78,7 @@ pub fn run_moved(
     quantiser: u32,
     place: usize,
 ) -> RunMoved
-    ensures { λ r. ⌜ (leftOf (r .report) frame (now (ry .entry)) (now (rcb .entry)) (now (rcr .entry)) (now (y .exit)) (now (cb .exit)) (now (cr .exit)) (now (mv .exit)) (now (marks .exit)) (now (transcript .exit)) ≡ listLeft (stateOf frame quantiser (now (ry .entry)) (now (rcb .entry)) (now (rcr .entry)) (now (y .entry)) (now (cb .entry)) (now (cr .entry)) (now (mv .entry)) (now (marks .entry))) (now (list .entry)) (now (bits .entry)) place (now (transcript .entry))) × (r .cursor ≡ cursorOf (r .report)) ⌝ }
+    ensures { λ r. ⌜ (leftOf (r .report) (stateAfter frame (r .report .quantiser) ry rcb rcr y cb cr mv marks) (now (transcript .exit)) ≡ listLeft (stateBefore frame quantiser ry rcb rcr y cb cr mv marks) (now (list .entry)) (now (bits .entry)) place (now (transcript .entry))) × (r .cursor ≡ cursorOf (r .report)) ⌝ }
 {
     let mut cursor = Cursor { place, quantiser };
     let report = run_at(

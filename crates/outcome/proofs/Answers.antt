@@ -2,20 +2,19 @@
 -- Assumes nothing.
 use mathlib.Core.Path.{_≡_, refl, sym, ap, _∙_}
 use mathlib.Core.List.{List}
-use Prim.Native.Nat.{ℕ, _+_, _-_, _≤_}
+use Prim.Native.Nat.{ℕ, _+_, _≤_}
 use native.Mathlib.Omega.{arith}
-use lib.ListN.{length, drop}
+use lib.ListN.{drop}
 use Rattle.refusal.specs.Got.{Got, got, refused}
 use Rattle.refusal.specs.declared.Refusal.{Refusal}
 use Rattle.bits.specs.Bits.{bitList}
-use Rattle.questions.specs.Questions.{askCall}
 use Rattle.questions.specs.declared.Call.{Call}
 use Rattle.questions.specs.declared.Asked.{Asked}
 use Rattle.questions.specs.declared.Asked.the-variants.{Yes, No}
 use Rattle.record.specs.Record.{Record}
 use Rattle.reading.specs.Read.{readMacroblock}
-use Rattle.outcome.specs.State.{State, contextOf, lengthsOf}
-use Rattle.outcome.specs.Decode.{Outcome, kept, outcomeOf, unlessRefused, decoded}
+use Rattle.outcome.specs.State.{State, contextOf}
+use Rattle.outcome.specs.Decode.{Outcome, kept, outcomeOf, unlessRefused, asked, decoded}
 use Rattle.outcome.specs.declared.MbAnswer.{MbAnswer}
 use Rattle.outcome.specs.declared.MbAnswer.the-variants.{Accepted, Refused}
 
@@ -26,10 +25,10 @@ pub data Answered (s : State) (call : Call) (bits : List ℕ) (place : ℕ) (t :
 pub answered : (s : State) (call : Call) (bits : List ℕ) (place : ℕ) (t : List ℕ) (fill : ℕ) → Answered s call bits place t fill
 unfolding decoded outcomeOf
 answered s call bits place t fill =
-    go (askCall (s .cols) (s .rows) (lengthsOf s) call (s .quantiser) (length bits) place (length t - fill)) refl
+    go (asked s call bits place t fill) refl
     (readMacroblock (contextOf s) call (drop place (bitList bits))) refl
   where
-    go : (a : Asked) → askCall (s .cols) (s .rows) (lengthsOf s) call (s .quantiser) (length bits) place (length t - fill) ≡ a
+    go : (a : Asked) → asked s call bits place t fill ≡ a
         → (g : Got Record) → readMacroblock (contextOf s) call (drop place (bitList bits)) ≡ g → Answered s call bits place t fill
     go (No why) e g h = no why (rw e)
     go Yes e (refused why) h = no why (rw (e, h))

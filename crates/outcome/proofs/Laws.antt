@@ -31,7 +31,7 @@ use Rattle.reading.specs.declared.svq3_frame.ReadAnswer.the-variants as read
 use Rattle.reading.proofs.Answers.{ReadBy, was-read, read-refused, read-coded, read-in-range, read-head-range, read-no-skip}
 use Rattle.apply.specs.Apply.{appliedLuma, appliedChroma, appliedField}
 use Rattle.outcome.specs.State.{State, fieldOf, contextOf, lengthsOf}
-use Rattle.outcome.specs.Decode.{Outcome, quantiserAfter, applied, outcomeOf, unlessRefused, decoded}
+use Rattle.outcome.specs.Decode.{Outcome, quantiserAfter, applied, outcomeOf, unlessRefused, asked, decoded}
 use Rattle.outcome.specs.Entry.{left, quantiserBy, cursorBy}
 use Rattle.outcome.specs.declared.Cursor.{Cursor}
 use Rattle.outcome.specs.declared.MbAnswer.{MbAnswer}
@@ -67,9 +67,6 @@ unfolding quantiserAfter
 coded-quantiser s r h = if-no _ _ _ (ne-eqb (r .head .mode) 0 (omega arith))
 
 module _ (s : State) (call : Call) (bits : List ℕ) (place : ℕ) (transcript : List ℕ) (fill : ℕ) where
-  abbrev pub asked : Asked
-  asked = askCall (s .cols) (s .rows) (lengthsOf s) call (s .quantiser) (length bits) place (length transcript - fill)
-
   -- what is read, and what is read of a macroblock that is no skip
   abbrev pub found : Got Record
   found = readMacroblock (contextOf s) call (drop place (bitList bits))
@@ -77,16 +74,16 @@ module _ (s : State) (call : Call) (bits : List ℕ) (place : ℕ) (transcript :
   abbrev pub foundCoded : Got Record
   foundCoded = readCoded (contextOf s) call (drop place (bitList bits))
 
-  pub asked-by : (answer : Asked) (free : ℕ) → answer ≡ askCall (s .cols) (s .rows) (lengthsOf s) call (s .quantiser) (length bits) place free → free ≡ length transcript - fill → answer ≡ asked
+  pub asked-by : (answer : Asked) (free : ℕ) → answer ≡ askCall (s .cols) (s .rows) (lengthsOf s) call (s .quantiser) (length bits) place free → free ≡ length transcript - fill → answer ≡ asked s call bits place transcript fill
   asked-by answer free e f = e ∙ ap (λ (n : ℕ). askCall (s .cols) (s .rows) (lengthsOf s) call (s .quantiser) (length bits) place n) f
 
   -- ---- a question was answered with no
-  pub not-asked : (answer : Asked) (why : Refusal) → answer ≡ asked → answer ≡ No why → left (Refused why) s transcript ≡ decoded s call bits place transcript fill
+  pub not-asked : (answer : Asked) (why : Refusal) → answer ≡ asked s call bits place transcript fill → answer ≡ No why → left (Refused why) s transcript ≡ decoded s call bits place transcript fill
   unfolding decoded
   not-asked answer why e is = rw (sym e ∙ is)
 
   -- ---- all were answered with yes
-  module _ (yes : asked ≡ Yes) where
+  module _ (yes : asked s call bits place transcript fill ≡ Yes) where
     abbrev pub Facts : Type 0
     Facts = Called (s .cols) (s .rows) (lengthsOf s) call (s .quantiser) (length bits) place (length transcript - fill)
 

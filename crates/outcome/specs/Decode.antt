@@ -64,7 +64,11 @@ abbrev pub unlessRefused : Asked → State → List ℕ → Outcome → Outcome
 unlessRefused Yes s transcript done = done
 unlessRefused (No why) s transcript done = kept s transcript (Refused why)
 
+-- the answer to the call's questions
+abbrev pub asked : State → Call → List ℕ → ℕ → List ℕ → ℕ → Asked
+asked s call bits place transcript fill = askCall (s .cols) (s .rows) (lengthsOf s) call (s .quantiser) (length bits) place (length transcript - fill)
+
 unfoldable pub decoded : State → Call → List ℕ → ℕ → List ℕ → ℕ → Outcome
 decoded s call bits place transcript fill =
-    unlessRefused (askCall (s .cols) (s .rows) (lengthsOf s) call (s .quantiser) (length bits) place (length transcript - fill)) s transcript
+    unlessRefused (asked s call bits place transcript fill) s transcript
     (outcomeOf s place transcript fill (readMacroblock (contextOf s) call (drop place (bitList bits))))

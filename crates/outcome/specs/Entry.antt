@@ -3,6 +3,8 @@
 use mathlib.Core.List.{List}
 use Prim.Native.Nat.{ℕ}
 use lib.IntN.{ℤ}
+use denote.Ref.{RefT}
+use denote.Triple.Both.{Both}
 use Rattle.outcome.specs.State.{State}
 use Rattle.outcome.specs.Decode.{Outcome}
 use Rattle.outcome.specs.declared.Frame.{Frame}
@@ -28,6 +30,20 @@ stateOf frame quantiser ry rcb rcr y cb cr mv marks =
       mv = mv;
       marks = marks;
     }
+
+-- a lent slice in an `ensures`: as it was at entry and as it is at exit
+abbrev pub Lent : Type 0 → Type 0
+Lent A = Both (RefT A) (RefT A)
+
+-- the state that lent slices make: in a `requires`; in an `ensures` at entry; and at exit, where the reference is as it was
+abbrev pub stateNow : Frame → ℕ → RefT (List ℕ) → RefT (List ℕ) → RefT (List ℕ) → RefT (List ℕ) → RefT (List ℕ) → RefT (List ℕ) → RefT (List ℤ) → RefT (List ℕ) → State
+stateNow frame quantiser ry rcb rcr y cb cr mv marks = stateOf frame quantiser (ry .now) (rcb .now) (rcr .now) (y .now) (cb .now) (cr .now) (mv .now) (marks .now)
+
+abbrev pub stateBefore : Frame → ℕ → Lent (List ℕ) → Lent (List ℕ) → Lent (List ℕ) → Lent (List ℕ) → Lent (List ℕ) → Lent (List ℕ) → Lent (List ℤ) → Lent (List ℕ) → State
+stateBefore frame quantiser ry rcb rcr y cb cr mv marks = stateNow frame quantiser (ry .entry) (rcb .entry) (rcr .entry) (y .entry) (cb .entry) (cr .entry) (mv .entry) (marks .entry)
+
+abbrev pub stateAfter : Frame → ℕ → Lent (List ℕ) → Lent (List ℕ) → Lent (List ℕ) → Lent (List ℕ) → Lent (List ℕ) → Lent (List ℕ) → Lent (List ℤ) → Lent (List ℕ) → State
+stateAfter frame quantiser ry rcb rcr y cb cr mv marks = stateNow frame quantiser (ry .entry) (rcb .entry) (rcr .entry) (y .exit) (cb .exit) (cr .exit) (mv .exit) (marks .exit)
 
 -- the quantiser after an answer: a refused call keeps it
 abbrev pub quantiserBy : ℕ → MbAnswer → ℕ

@@ -3,7 +3,6 @@
 use mathlib.Core.List.{List, [], _∷_}
 use Prim.Native.Nat.{ℕ}
 use lib.ListN.{length}
-use lib.IntN.{ℤ}
 use Rattle.refusal.specs.Got.{Got, got, refused}
 use Rattle.questions.specs.Questions.{askReplay}
 use Rattle.questions.specs.declared.Asked.{Asked}
@@ -11,8 +10,6 @@ use Rattle.questions.specs.declared.Asked.the-variants.{Yes, No}
 use Rattle.record.specs.Record.{Record}
 use Rattle.checking.specs.Records.{records}
 use Rattle.outcome.specs.State.{State, lengthsOf}
-use Rattle.outcome.specs.Entry.{stateOf}
-use Rattle.outcome.specs.declared.Frame.{Frame}
 use Rattle.outcome.specs.Decode.{applied}
 use Rattle.replay.specs.declared.ReplayAnswer.{ReplayAnswer}
 use Rattle.replay.specs.declared.ReplayAnswer.the-variants.{Replayed, Refused}
@@ -38,10 +35,11 @@ unlessAsked (No why) s done = record { answer = Refused why; state = s }
 unfoldable pub replayed : State → List ℕ → Replay
 replayed s bytes = unlessAsked (askReplay (s .cols) (s .rows) (lengthsOf s) (s .quantiser)) s (replayOf s (records (s .cols) (s .rows) bytes))
 
--- an answer and what the slices hold: the quantiser afterwards is the answer's
+-- the quantiser after an answer: a refused replay keeps it
 abbrev pub quantiserOf : ℕ → ReplayAnswer → ℕ
 quantiserOf q (Replayed n after) = after
 quantiserOf q (Refused why) = q
 
-abbrev pub replayLeft : ReplayAnswer → Frame → ℕ → List ℕ → List ℕ → List ℕ → List ℕ → List ℕ → List ℕ → List ℤ → List ℕ → Replay
-replayLeft answer frame quantiser ry rcb rcr y cb cr mv marks = record { answer = answer; state = stateOf frame (quantiserOf quantiser answer) ry rcb rcr y cb cr mv marks }
+-- an answer and the state that the slices make
+abbrev pub replayLeft : ReplayAnswer → State → Replay
+replayLeft answer s = record { answer = answer; state = s }

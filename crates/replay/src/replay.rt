@@ -3,8 +3,8 @@ ghost use mathlib.Core.Path.{_≡_};
 ghost use Prim.Native.Nat.{_*_, _≤_};
 ghost use lib.ListN.{length};
 ghost use Rattle.picture.specs.Picture.{Sized, cellCount};
-ghost use Rattle.outcome.specs.Entry.{stateOf};
-ghost use Rattle.replay.specs.Replay.{replayed, replayLeft};
+ghost use Rattle.outcome.specs.Entry.{stateBefore, stateAfter};
+ghost use Rattle.replay.specs.Replay.{replayed, quantiserOf, replayLeft};
 ghost use Rattle.replay.specs.Recorded.{Recorded, allLeft};
 use crate::ReplayAnswer;
 use checking::CheckAnswer;
@@ -31,7 +31,7 @@ fn replay_records(
 ) -> u32
     requires { ⌜ (frame .cols ≤ 4096) × (frame .rows ≤ 4096) × Recorded (frame .cols) (frame .rows) (now bytes) ⌝ }
     requires { ⌜ Sized (frame .cols) (frame .rows) (length (now y)) (length (now cb)) (length (now cr)) × Sized (frame .cols) (frame .rows) (length (now ry)) (length (now rcb)) (length (now rcr)) × (length (now mv) ≡ 2 * cellCount (frame .cols) (frame .rows)) × (length (now marks) ≡ cellCount (frame .cols) (frame .rows)) ⌝ }
-    ensures { λ r. ⌜ stateOf frame r (now (ry .entry)) (now (rcb .entry)) (now (rcr .entry)) (now (y .exit)) (now (cb .exit)) (now (cr .exit)) (now (mv .exit)) (now (marks .exit)) ≡ allLeft (stateOf frame quantiser (now (ry .entry)) (now (rcb .entry)) (now (rcr .entry)) (now (y .entry)) (now (cb .entry)) (now (cr .entry)) (now (mv .entry)) (now (marks .entry))) (now (bytes .entry)) ⌝ }
+    ensures { λ r. ⌜ stateAfter frame r ry rcb rcr y cb cr mv marks ≡ allLeft (stateBefore frame quantiser ry rcb rcr y cb cr mv marks) (now (bytes .entry)) ⌝ }
 {
     let mut q = quantiser;
     let mut at = 0;
@@ -57,7 +57,7 @@ pub fn replay(
     frame: Frame,
     quantiser: u32,
 ) -> ReplayAnswer
-    ensures { λ r. ⌜ replayLeft r frame quantiser (now (ry .entry)) (now (rcb .entry)) (now (rcr .entry)) (now (y .exit)) (now (cb .exit)) (now (cr .exit)) (now (mv .exit)) (now (marks .exit)) ≡ replayed (stateOf frame quantiser (now (ry .entry)) (now (rcb .entry)) (now (rcr .entry)) (now (y .entry)) (now (cb .entry)) (now (cr .entry)) (now (mv .entry)) (now (marks .entry))) (now (bytes .entry)) ⌝ }
+    ensures { λ r. ⌜ replayLeft r (stateAfter frame (quantiserOf quantiser r) ry rcb rcr y cb cr mv marks) ≡ replayed (stateBefore frame quantiser ry rcb rcr y cb cr mv marks) (now (bytes .entry)) ⌝ }
 {
     let l = Lengths {
         y: y.len(),

@@ -3,14 +3,11 @@
 use mathlib.Core.Path.{_≡_}
 use mathlib.Core.List.{List, [], _∷_}
 use Prim.Native.Nat.{ℕ, _+_, _-_}
-use lib.IntN.{ℤ}
 use lib.ListN.{length}
 use Rattle.refusal.specs.Got.{Got, got, refused}
 use Rattle.questions.specs.declared.Call.{Call}
 use Rattle.calls.specs.Calls.{calls}
 use Rattle.outcome.specs.State.{State}
-use Rattle.outcome.specs.Entry.{stateOf}
-use Rattle.outcome.specs.declared.Frame.{Frame}
 use Rattle.report.specs.Run.{Ran, ranFrom, ranList, ended}
 use Rattle.report.specs.declared.Report.{Report}
 use Rattle.report.specs.declared.Stop.{Stop}
@@ -39,8 +36,8 @@ unfoldable pub listLeft : State → List ℕ → List ℕ → ℕ → List ℕ �
 listLeft s list bits place transcript = leaves 0 place (ranList s list bits place transcript)
 
 -- as the code has it
-abbrev pub leftOf : Report → Frame → List ℕ → List ℕ → List ℕ → List ℕ → List ℕ → List ℕ → List ℤ → List ℕ → List ℕ → Left
-leftOf r frame ry rcb rcr y cb cr mv marks transcript = record { report = r; state = stateOf frame (r .quantiser) ry rcb rcr y cb cr mv marks; transcript = transcript }
+abbrev pub leftOf : Report → State → List ℕ → Left
+leftOf r s transcript = record { report = r; state = s; transcript = transcript }
 
 -- a list in form
 pub record Listed (list : List ℕ) : Type 0 where

@@ -1,6 +1,6 @@
 // The run of a list.
 ghost use mathlib.Core.Path.{_≡_};
-ghost use Rattle.outcome.specs.Entry.{stateOf};
+ghost use Rattle.outcome.specs.Entry.{stateBefore, stateAfter};
 ghost use Rattle.report.specs.Left.{leftOf, listLeft};
 use calls::CallsAnswer;
 use calls::check_calls;
@@ -29,7 +29,7 @@ pub fn run(
     quantiser: u32,
     place: usize,
 ) -> Report
-    ensures { λ r. ⌜ leftOf r frame (now (ry .entry)) (now (rcb .entry)) (now (rcr .entry)) (now (y .exit)) (now (cb .exit)) (now (cr .exit)) (now (mv .exit)) (now (marks .exit)) (now (transcript .exit)) ≡ listLeft (stateOf frame quantiser (now (ry .entry)) (now (rcb .entry)) (now (rcr .entry)) (now (y .entry)) (now (cb .entry)) (now (cr .entry)) (now (mv .entry)) (now (marks .entry))) (now (list .entry)) (now (bits .entry)) place (now (transcript .entry)) ⌝ }
+    ensures { λ r. ⌜ leftOf r (stateAfter frame (r .quantiser) ry rcb rcr y cb cr mv marks) (now (transcript .exit)) ≡ listLeft (stateBefore frame quantiser ry rcb rcr y cb cr mv marks) (now (list .entry)) (now (bits .entry)) place (now (transcript .entry)) ⌝ }
 {
     match check_calls(list) {
         CallsAnswer::Calls(n) => {

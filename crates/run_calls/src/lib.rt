@@ -1,6 +1,6 @@
 // The calls of a list, one after another, until one is refused.
 ghost use mathlib.Core.Path.{_≡_};
-ghost use Rattle.outcome.specs.Entry.{stateOf};
+ghost use Rattle.outcome.specs.Entry.{stateBefore, stateAfter};
 ghost use Rattle.report.specs.Left.{Listed, leftOf, callsLeft};
 use calls::CallAnswer;
 use calls::read_call;
@@ -30,7 +30,7 @@ pub fn run_calls(
     place: usize,
 ) -> Report
     requires { ⌜ Listed (now list) ⌝ }
-    ensures { λ r. ⌜ leftOf r frame (now (ry .entry)) (now (rcb .entry)) (now (rcr .entry)) (now (y .exit)) (now (cb .exit)) (now (cr .exit)) (now (mv .exit)) (now (marks .exit)) (now (transcript .exit)) ≡ callsLeft (stateOf frame quantiser (now (ry .entry)) (now (rcb .entry)) (now (rcr .entry)) (now (y .entry)) (now (cb .entry)) (now (cr .entry)) (now (mv .entry)) (now (marks .entry))) (now (list .entry)) (now (bits .entry)) place (now (transcript .entry)) ⌝ }
+    ensures { λ r. ⌜ leftOf r (stateAfter frame (r .quantiser) ry rcb rcr y cb cr mv marks) (now (transcript .exit)) ≡ callsLeft (stateBefore frame quantiser ry rcb rcr y cb cr mv marks) (now (list .entry)) (now (bits .entry)) place (now (transcript .entry)) ⌝ }
 {
     let mut q = quantiser;
     let mut p = place;

@@ -2,7 +2,7 @@
 pub mod svq3_frame;
 
 ghost use mathlib.Core.Path.{_≡_};
-ghost use Rattle.outcome.specs.Entry.{stateOf};
+ghost use Rattle.outcome.specs.Entry.{stateBefore, stateAfter};
 ghost use Rattle.report.specs.Left.{leftOf, listLeft};
 ghost use Rattle.thin.specs.Cursor.{cursorOf};
 use outcome::Cursor;
@@ -36,7 +36,7 @@ pub fn run_at(
     cursor: &mut Cursor,
     frame: Frame,
 ) -> Report
-    ensures { λ r. ⌜ (leftOf r frame (now (ry .entry)) (now (rcb .entry)) (now (rcr .entry)) (now (y .exit)) (now (cb .exit)) (now (cr .exit)) (now (mv .exit)) (now (marks .exit)) (now (transcript .exit)) ≡ listLeft (stateOf frame (now (cursor .entry) .quantiser) (now (ry .entry)) (now (rcb .entry)) (now (rcr .entry)) (now (y .entry)) (now (cb .entry)) (now (cr .entry)) (now (mv .entry)) (now (marks .entry))) (now (list .entry)) (now (bits .entry)) (now (cursor .entry) .place) (now (transcript .entry))) × (now (cursor .exit) ≡ cursorOf r) ⌝ }
+    ensures { λ r. ⌜ (leftOf r (stateAfter frame (r .quantiser) ry rcb rcr y cb cr mv marks) (now (transcript .exit)) ≡ listLeft (stateBefore frame (now (cursor .entry) .quantiser) ry rcb rcr y cb cr mv marks) (now (list .entry)) (now (bits .entry)) (now (cursor .entry) .place) (now (transcript .entry))) × (now (cursor .exit) ≡ cursorOf r) ⌝ }
 {
     let place = cursor.place;
     let quantiser = cursor.quantiser;

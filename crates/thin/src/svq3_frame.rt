@@ -1,7 +1,7 @@
 // The entry that moves on the caller's record.
 ghost use mathlib.Core.Path.{_≡_};
 ghost use Rattle.outcome.specs.Decode.{decoded};
-ghost use Rattle.outcome.specs.Entry.{stateOf, left, cursorBy};
+ghost use Rattle.outcome.specs.Entry.{stateBefore, stateAfter, left, cursorBy};
 use macroblock::svq3_frame::decode_inter_mb;
 use outcome::Cursor;
 use outcome::Frame;
@@ -26,7 +26,7 @@ pub fn decode_inter_mb_at(
     call: Call,
     fill: usize,
 ) -> MbAnswer
-    ensures { λ r. ⌜ (left r (stateOf frame (now (cursor .exit) .quantiser) (now (ry .entry)) (now (rcb .entry)) (now (rcr .entry)) (now (y .exit)) (now (cb .exit)) (now (cr .exit)) (now (mv .exit)) (now (marks .exit))) (now (transcript .exit)) ≡ decoded (stateOf frame (now (cursor .entry) .quantiser) (now (ry .entry)) (now (rcb .entry)) (now (rcr .entry)) (now (y .entry)) (now (cb .entry)) (now (cr .entry)) (now (mv .entry)) (now (marks .entry))) call (now (bits .entry)) (now (cursor .entry) .place) (now (transcript .entry)) fill) × (now (cursor .exit) ≡ cursorBy (now (cursor .entry) .place) (now (cursor .entry) .quantiser) r) ⌝ }
+    ensures { λ r. ⌜ (left r (stateAfter frame (now (cursor .exit) .quantiser) ry rcb rcr y cb cr mv marks) (now (transcript .exit)) ≡ decoded (stateBefore frame (now (cursor .entry) .quantiser) ry rcb rcr y cb cr mv marks) call (now (bits .entry)) (now (cursor .entry) .place) (now (transcript .entry)) fill) × (now (cursor .exit) ≡ cursorBy (now (cursor .entry) .place) (now (cursor .entry) .quantiser) r) ⌝ }
 {
     let place = cursor.place;
     let quantiser = cursor.quantiser;
