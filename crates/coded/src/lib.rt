@@ -6,6 +6,7 @@ ghost use Rattle.outcome.specs.Entry.{stateNow, stateBefore, stateAfter, quanti
 use apply::applied::apply_coded;
 use outcome::Frame;
 use outcome::MbAnswer;
+use outcome::MbReport;
 use questions::Asked;
 use questions::Call;
 use reading::svq3_frame::ReadAnswer;
@@ -32,7 +33,8 @@ pub fn decode_coded(
 ) -> MbAnswer
     requires { ⌜ asked (stateNow frame quantiser ry rcb rcr y cb cr mv marks) call (now bits) place (now transcript) fill ≡ Asked.Yes ⌝ }
     requires { ⌜ 0 < call .mode ⌝ }
-    ensures { λ r. ⌜ left r (stateAfter frame (quantiserBy quantiser r) ry rcb rcr y cb cr mv marks) (now (transcript .exit)) ≡ decoded (stateBefore frame quantiser ry rcb rcr y cb cr mv marks) call (now (bits .entry)) place (now (transcript .entry)) fill ⌝ }
+    ensures { λ r. ⌜ left r (stateAfter frame (quantiserBy quantiser r) ry rcb rcr y cb cr mv marks) (now (transcript .exit))
+        ≡ decoded (stateBefore frame quantiser ry rcb rcr y cb cr mv marks) call (now (bits .entry)) place (now (transcript .entry)) fill ⌝ }
 {
     let mut vectors = [0i32; 32];
     let mut levels = [0i32; 392];
@@ -69,7 +71,12 @@ pub fn decode_coded(
                 rows,
                 head,
             );
-            MbAnswer::Accepted(next, head.quantiser, filled, head.clipped)
+            MbAnswer::Accepted(MbReport {
+                place: next,
+                quantiser: head.quantiser,
+                fill: filled,
+                clipped: head.clipped,
+            })
         }
         ReadAnswer::Refused(why) => MbAnswer::Refused(why),
     }

@@ -33,7 +33,7 @@ checkCode (check.Records n) = pos n
 checkCode (check.Refused why) = refusalCode why
 
 abbrev pub mbCode : MbAnswer → ℤ
-mbCode (mb.Accepted next after filled clipped) = pos 0
+mbCode (mb.Accepted report) = pos 0
 mbCode (mb.Refused why) = refusalCode why
 
 -- why a run ended
@@ -42,5 +42,5 @@ stopCode Done = pos 0
 stopCode (By why) = refusalCode why
 
 abbrev pub replayCode : ReplayAnswer → ℤ
-replayCode (replay.Replayed n after) = pos 0
+replayCode (replay.Replayed report) = pos 0
 replayCode (replay.Refused why) = refusalCode why

@@ -19,7 +19,7 @@ wordOf (negsuc n) = 18446744073709551615 - n
 
 -- one macroblock: the place, the quantiser, the fill, the clipped components, the detail; refused, the first three as they were given
 abbrev pub mbCounts : MbAnswer → ℕ → ℕ → ℕ → List ℕ
-mbCounts (mb.Accepted next after filled clipped) place quantiser fill = next ∷ after ∷ filled ∷ clipped ∷ 0 ∷ []
+mbCounts (mb.Accepted report) place quantiser fill = report .place ∷ report .quantiser ∷ report .fill ∷ report .clipped ∷ 0 ∷ []
 mbCounts (mb.Refused why) place quantiser fill = place ∷ quantiser ∷ fill ∷ 0 ∷ wordOf (detailOf why) ∷ []
 
 -- a run: the accepted calls, the consumed bits, the fill, the quantiser, the detail
@@ -32,5 +32,5 @@ runCounts r = r .accepted ∷ r .consumed ∷ r .fill ∷ r .quantiser ∷ stopD
 
 -- a replay: the records, the quantiser; refused, 0 and the quantiser as it was given
 abbrev pub replayCounts : ReplayAnswer → ℕ → List ℕ
-replayCounts (replay.Replayed n after) quantiser = n ∷ after ∷ []
+replayCounts (replay.Replayed report) quantiser = report .records ∷ report .quantiser ∷ []
 replayCounts (replay.Refused why) quantiser = 0 ∷ quantiser ∷ []

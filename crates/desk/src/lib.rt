@@ -60,7 +60,8 @@ pub extern "C" fn svq3_macroblock(
     fill: u64,
     counts: &mut [u64],
 ) -> i64
-    ensures { λ r. ⌜ ended r (slicesAfter y cb cr mv marks transcript counts) ≡ mbEnded (stateBefore (frameOf cols rows flags delta) quantiser ry rcb rcr y cb cr mv marks) (slicesBefore y cb cr mv marks transcript counts) (callOf column row mode) (now (bits .entry)) place fill ⌝ }
+    ensures { λ r. ⌜ ended r (slicesAfter y cb cr mv marks transcript counts)
+        ≡ mbEnded (stateBefore (frameOf cols rows flags delta) quantiser ry rcb rcr y cb cr mv marks) (slicesBefore y cb cr mv marks transcript counts) (callOf column row mode) (now (bits .entry)) place fill ⌝ }
 {
     if counts.len() < MB_COUNTS {
         return OUTPUT_ROOM;
@@ -109,7 +110,8 @@ pub extern "C" fn svq3_run(
     transcript: &mut [u8],
     counts: &mut [u64],
 ) -> i64
-    ensures { λ r. ⌜ ended r (slicesAfter y cb cr mv marks transcript counts) ≡ runEnded (stateBefore (frameOf cols rows flags delta) quantiser ry rcb rcr y cb cr mv marks) (slicesBefore y cb cr mv marks transcript counts) (now (calls .entry)) (now (bits .entry)) place ⌝ }
+    ensures { λ r. ⌜ ended r (slicesAfter y cb cr mv marks transcript counts)
+        ≡ runEnded (stateBefore (frameOf cols rows flags delta) quantiser ry rcb rcr y cb cr mv marks) (slicesBefore y cb cr mv marks transcript counts) (now (calls .entry)) (now (bits .entry)) place ⌝ }
 {
     if counts.len() < RUN_COUNTS {
         return OUTPUT_ROOM;
@@ -151,7 +153,8 @@ pub extern "C" fn svq3_replay(
     transcript: &[u8],
     counts: &mut [u64],
 ) -> i64
-    ensures { λ r. ⌜ ended r (slicesAfter y cb cr mv marks transcript counts) ≡ replayEnded (stateBefore (frameOf cols rows 0 0) quantiser ry rcb rcr y cb cr mv marks) (slicesBefore y cb cr mv marks transcript counts) ⌝ }
+    ensures { λ r. ⌜ ended r (slicesAfter y cb cr mv marks transcript counts)
+        ≡ replayEnded (stateBefore (frameOf cols rows 0 0) quantiser ry rcb rcr y cb cr mv marks) (slicesBefore y cb cr mv marks transcript counts) ⌝ }
 {
     if counts.len() < REPLAY_COUNTS {
         return OUTPUT_ROOM;

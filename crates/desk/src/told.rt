@@ -62,13 +62,13 @@ pub fn tell_macroblock(
     ensures { λ r. ⌜ (r ≡ mbCode answer) × (now (counts .exit) ≡ sets (now (counts .entry)) 0 (mbCounts answer place quantiser fill)) ⌝ }
 {
     match answer {
-        MbAnswer::Accepted(next, after, filled, clipped) => {
+        MbAnswer::Accepted(report) => {
             put_five(
                 counts,
-                next as u64,
-                after as u64,
-                filled as u64,
-                clipped as u64,
+                report.place as u64,
+                report.quantiser as u64,
+                report.fill as u64,
+                report.clipped as u64,
                 0,
             );
             0
@@ -108,8 +108,8 @@ pub fn tell_replay(counts: &mut [u64], answer: ReplayAnswer, quantiser: u32) -> 
     ensures { λ r. ⌜ (r ≡ replayCode answer) × (now (counts .exit) ≡ sets (now (counts .entry)) 0 (replayCounts answer quantiser)) ⌝ }
 {
     match answer {
-        ReplayAnswer::Replayed(records, after) => {
-            put_two(counts, records as u64, after as u64);
+        ReplayAnswer::Replayed(report) => {
+            put_two(counts, report.records as u64, report.quantiser as u64);
             0
         }
         ReplayAnswer::Refused(why) => {

@@ -7,6 +7,7 @@ use apply::applied::apply_skip;
 use coded::decode_coded;
 use outcome::Frame;
 use outcome::MbAnswer;
+use outcome::MbReport;
 use questions::Asked;
 use questions::Call;
 use questions::Lengths;
@@ -40,7 +41,8 @@ fn decode_skip(
 ) -> MbAnswer
     requires { ⌜ asked (stateNow frame quantiser ry rcb rcr y cb cr mv marks) call (now bits) place (now transcript) fill ≡ Asked.Yes ⌝ }
     requires { ⌜ call .mode ≡ 0 ⌝ }
-    ensures { λ r. ⌜ left r (stateAfter frame (quantiserBy quantiser r) ry rcb rcr y cb cr mv marks) (now (transcript .exit)) ≡ decoded (stateBefore frame quantiser ry rcb rcr y cb cr mv marks) call (now (bits .entry)) place (now (transcript .entry)) fill ⌝ }
+    ensures { λ r. ⌜ left r (stateAfter frame (quantiserBy quantiser r) ry rcb rcr y cb cr mv marks) (now (transcript .exit))
+        ≡ decoded (stateBefore frame quantiser ry rcb rcr y cb cr mv marks) call (now (bits .entry)) place (now (transcript .entry)) fill ⌝ }
 {
     let filled = put_skip(transcript, fill, call.column, call.row);
     apply_skip(
@@ -57,7 +59,12 @@ fn decode_skip(
         call.column as usize,
         call.row as usize,
     );
-    MbAnswer::Accepted(place, quantiser, filled, 0)
+    MbAnswer::Accepted(MbReport {
+        place,
+        quantiser,
+        fill: filled,
+        clipped: 0,
+    })
 }
 
 // A call whose questions were all answered with yes.
@@ -79,7 +86,8 @@ fn decode_asked(
     fill: usize,
 ) -> MbAnswer
     requires { ⌜ asked (stateNow frame quantiser ry rcb rcr y cb cr mv marks) call (now bits) place (now transcript) fill ≡ Asked.Yes ⌝ }
-    ensures { λ r. ⌜ left r (stateAfter frame (quantiserBy quantiser r) ry rcb rcr y cb cr mv marks) (now (transcript .exit)) ≡ decoded (stateBefore frame quantiser ry rcb rcr y cb cr mv marks) call (now (bits .entry)) place (now (transcript .entry)) fill ⌝ }
+    ensures { λ r. ⌜ left r (stateAfter frame (quantiserBy quantiser r) ry rcb rcr y cb cr mv marks) (now (transcript .exit))
+        ≡ decoded (stateBefore frame quantiser ry rcb rcr y cb cr mv marks) call (now (bits .entry)) place (now (transcript .entry)) fill ⌝ }
 {
     if call.mode == 0 {
         decode_skip(
@@ -138,7 +146,8 @@ pub fn decode_inter_mb(
     place: usize,
     fill: usize,
 ) -> MbAnswer
-    ensures { λ r. ⌜ left r (stateAfter frame (quantiserBy quantiser r) ry rcb rcr y cb cr mv marks) (now (transcript .exit)) ≡ decoded (stateBefore frame quantiser ry rcb rcr y cb cr mv marks) call (now (bits .entry)) place (now (transcript .entry)) fill ⌝ }
+    ensures { λ r. ⌜ left r (stateAfter frame (quantiserBy quantiser r) ry rcb rcr y cb cr mv marks) (now (transcript .exit))
+        ≡ decoded (stateBefore frame quantiser ry rcb rcr y cb cr mv marks) call (now (bits .entry)) place (now (transcript .entry)) fill ⌝ }
 {
     // Read one by one and at once: a wide load of two numbers that were just stored apart would wait for every store before them.
     let column = call.column;

@@ -38,11 +38,11 @@ pub fn answered(got: MbMoved, head: &[u8; 80]) -> bool {
     let answer = got.answer;
     let cursor = got.cursor;
     match answer {
-        MbAnswer::Accepted(place, quantiser, filled, _) => {
+        MbAnswer::Accepted(report) => {
             (head[2] == 0)
-                & (place == long_at(head, 40))
-                & (quantiser == number_at(head, 28))
-                & (filled == end_of(head))
+                & (report.place == long_at(head, 40))
+                & (report.quantiser == number_at(head, 28))
+                & (report.fill == end_of(head))
                 & stands_at(cursor, long_at(head, 40), number_at(head, 28))
         }
         MbAnswer::Refused(why) => {

@@ -40,7 +40,9 @@ pub fn decode_moved(
     place: usize,
     fill: usize,
 ) -> MbMoved
-    ensures { λ r. ⌜ (left (r .answer) (stateAfter frame (r .cursor .quantiser) ry rcb rcr y cb cr mv marks) (now (transcript .exit)) ≡ decoded (stateBefore frame quantiser ry rcb rcr y cb cr mv marks) call (now (bits .entry)) place (now (transcript .entry)) fill) × (r .cursor ≡ cursorBy place quantiser (r .answer)) ⌝ }
+    ensures { λ r. ⌜ (left (r .answer) (stateAfter frame (r .cursor .quantiser) ry rcb rcr y cb cr mv marks) (now (transcript .exit))
+        ≡ decoded (stateBefore frame quantiser ry rcb rcr y cb cr mv marks) call (now (bits .entry)) place (now (transcript .entry)) fill)
+        × (r .cursor ≡ cursorBy place quantiser (r .answer)) ⌝ }
 {
     let mut cursor = Cursor { place, quantiser };
     let answer = decode_inter_mb_at(
@@ -78,7 +80,9 @@ pub fn run_moved(
     quantiser: u32,
     place: usize,
 ) -> RunMoved
-    ensures { λ r. ⌜ (leftOf (r .report) (stateAfter frame (r .report .quantiser) ry rcb rcr y cb cr mv marks) (now (transcript .exit)) ≡ listLeft (stateBefore frame quantiser ry rcb rcr y cb cr mv marks) (now (list .entry)) (now (bits .entry)) place (now (transcript .entry))) × (r .cursor ≡ cursorOf (r .report)) ⌝ }
+    ensures { λ r. ⌜ (leftOf (r .report) (stateAfter frame (r .report .quantiser) ry rcb rcr y cb cr mv marks) (now (transcript .exit))
+        ≡ listLeft (stateBefore frame quantiser ry rcb rcr y cb cr mv marks) (now (list .entry)) (now (bits .entry)) place (now (transcript .entry)))
+        × (r .cursor ≡ cursorOf (r .report)) ⌝ }
 {
     let mut cursor = Cursor { place, quantiser };
     let report = run_at(

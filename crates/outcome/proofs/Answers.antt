@@ -15,6 +15,8 @@ use Rattle.record.specs.Record.{Record}
 use Rattle.reading.specs.Read.{readMacroblock}
 use Rattle.outcome.specs.State.{State, contextOf}
 use Rattle.outcome.specs.Decode.{Outcome, kept, outcomeOf, unlessRefused, asked, decoded}
+use Rattle.outcome.specs.Entry.{cursorBy}
+use Rattle.outcome.specs.declared.MbReport.{MbReport}
 use Rattle.outcome.specs.declared.MbAnswer.{MbAnswer}
 use Rattle.outcome.specs.declared.MbAnswer.the-variants.{Accepted, Refused}
 
@@ -34,7 +36,7 @@ answered s call bits place t fill =
     go Yes e (refused why) h = no why (rw (e, h))
     go Yes e (got r n) h = yes r n (rw (e, h))
 
-never : {A : Type 0} {why : Refusal} {p q f k : ℕ} → Accepted p q f k ≡ Refused why → A
+never : {A : Type 0} {why : Refusal} {report : MbReport} → Accepted report ≡ Refused why → A
 never e = absurd (let z : _≡_ {A = ℕ} 0 1 = cc in omega arith)
 
 -- refused: nothing has changed
@@ -46,11 +48,11 @@ refused-kept s call bits place t fill {o} {why} e a = go (answered s call bits p
     go (no w x) = let y = e ∙ x in y ∙ ap (λ (m : MbAnswer). kept s t m) (sym (ap (λ (p : Outcome). p .answer) y) ∙ a)
     go (yes r n x) = never (sym (ap (λ (p : Outcome). p .answer) (e ∙ x)) ∙ a)
 
--- accepted: the place has not moved back, and the quantiser is the state's
-pub accepted-on : (s : State) (call : Call) (bits : List ℕ) (place : ℕ) (t : List ℕ) (fill : ℕ) {o : Outcome} {p q f k : ℕ} → o ≡ decoded s call bits place t fill → o .answer ≡ Accepted p q f k → place ≤ p
+-- accepted: the place has not moved back
+pub accepted-on : (s : State) (call : Call) (bits : List ℕ) (place : ℕ) (t : List ℕ) (fill : ℕ) {o : Outcome} {report : MbReport} → o ≡ decoded s call bits place t fill → o .answer ≡ Accepted report → place ≤ report .place
 unfolding outcomeOf
-accepted-on s call bits place t fill {o} {p} {q} {f} {k} e a = go (answered s call bits place t fill)
+accepted-on s call bits place t fill {o} {report} e a = go (answered s call bits place t fill)
   where
-    go : Answered s call bits place t fill → place ≤ p
+    go : Answered s call bits place t fill → place ≤ report .place
     go (no w x) = never (sym a ∙ ap (λ (p : Outcome). p .answer) (e ∙ x))
-    go (yes r n x) = let y = sym a ∙ ap (λ (p : Outcome). p .answer) (e ∙ x) in let z : p ≡ place + n = cc in omega arith
+    go (yes r n x) = let z : report .place ≡ place + n = ap (λ (m : MbAnswer). cursorBy place 0 m .place) (sym a ∙ ap (λ (p : Outcome). p .answer) (e ∙ x)) in omega arith

@@ -108,12 +108,12 @@ module _ (s : State) (call : Call) (bits : List ℕ) (place : ℕ) (transcript :
         → cr ≡ appliedChroma 1 (s .cols) (s .rows) (s .rcr) (skipRecord (call .column) (call .row)) (s .cr)
         → mv ≡ appliedField (skipRecord (call .column) (call .row)) (fieldOf s) .mv
         → marks ≡ appliedField (skipRecord (call .column) (call .row)) (fieldOf s) .marks
-        → left (Accepted place (s .quantiser) filled 0) (changed s (s .quantiser) y cb cr mv marks) bytes ≡ decoded s call bits place transcript fill
+        → left (Accepted (record { place = place; quantiser = s .quantiser; fill = filled; clipped = 0 })) (changed s (s .quantiser) y cb cr mv marks) bytes ≡ decoded s call bits place transcript fill
     unfolding outcomeOf applied quantiserAfter skipRecord readMacroblock if_then_else_
     skipped m filled y cb cr mv marks bytes w ey ecb ecr em ek =
         let e : found ≡ got (skipRecord (call .column) (call .row)) 0 = rw (eq-eqb (call .mode) 0 m) in
         let p : place ≡ place + 0 = omega arith in
-        (λ i. left (Accepted (p i) (s .quantiser) (w .moved i) 0) (changed s (s .quantiser) (ey i) (ecb i) (ecr i) (em i) (ek i)) (w .leaves i)) ∙ on (got (skipRecord (call .column) (call .row)) 0) e
+        (λ i. left (Accepted (record { place = p i; quantiser = s .quantiser; fill = w .moved i; clipped = 0 })) (changed s (s .quantiser) (ey i) (ecb i) (ecr i) (em i) (ek i)) (w .leaves i)) ∙ on (got (skipRecord (call .column) (call .row)) 0) e
 
     -- ---- no skip
     module _ (some : 0 < call .mode) where
@@ -150,14 +150,14 @@ module _ (s : State) (call : Call) (bits : List ℕ) (place : ℕ) (transcript :
             → cr ≡ appliedChroma 1 (s .cols) (s .rows) (s .rcr) (recordOf h vs ls) (s .cr)
             → mv ≡ appliedField (recordOf h vs ls) (fieldOf s) .mv
             → marks ≡ appliedField (recordOf h vs ls) (fieldOf s) .marks
-            → left (Accepted next (h .quantiser) filled (h .clipped)) (changed s (h .quantiser) y cb cr mv marks) bytes ≡ decoded s call bits place transcript fill
+            → left (Accepted (record { place = next; quantiser = h .quantiser; fill = filled; clipped = h .clipped })) (changed s (h .quantiser) y cb cr mv marks) bytes ≡ decoded s call bits place transcript fill
         unfolding outcomeOf applied
         accepted filled y cb cr mv marks bytes w ey ecb ecr em ek =
             let q = sym (coded-quantiser s (recordOf h vs ls) no-skip) in
-            (λ i. left (Accepted (by .moved i) (q i) (w .moved i) (h .clipped)) (changed s (q i) (ey i) (ecb i) (ecr i) (em i) (ek i)) (w .leaves i))
+            (λ i. left (Accepted (record { place = by .moved i; quantiser = q i; fill = w .moved i; clipped = h .clipped })) (changed s (q i) (ey i) (ecb i) (ecr i) (em i) (ek i)) (w .leaves i))
             ∙ on-coded (got (recordOf h vs ls) (by .taken)) (by .is)
 
 -- ---- the caller's record moved on by an answer has the answer's quantiser
 pub moved-quantiser : (place q : ℕ) (m : MbAnswer) (c : Cursor) → c ≡ cursorBy place q m → c .quantiser ≡ quantiserBy q m
-moved-quantiser place q (Accepted next quantiser fill clipped) c e = ap (λ (x : Cursor). x .quantiser) e
+moved-quantiser place q (Accepted report) c e = ap (λ (x : Cursor). x .quantiser) e
 moved-quantiser place q (Refused why) c e = ap (λ (x : Cursor). x .quantiser) e

@@ -54,10 +54,14 @@ pub record Outcome : Type 0 where
 abbrev pub kept : State → List ℕ → MbAnswer → Outcome
 kept s transcript answer = record { answer = answer; state = s; transcript = transcript }
 
--- accepted: the place after, the quantiser, the transcript's fill after and the clipped count; the record stands in the transcript from its fill on
+-- accepted: the record stands in the transcript from its fill on
 unfoldable pub outcomeOf : State → ℕ → List ℕ → ℕ → Got Record → Outcome
 outcomeOf s place transcript fill (got r n) =
-    record { answer = Accepted (place + n) (quantiserAfter s r) (fill + length (recordBytes r)) (r .head .clipped); state = applied s r; transcript = sets transcript fill (recordBytes r) }
+    record {
+      answer = Accepted (record { place = place + n; quantiser = quantiserAfter s r; fill = fill + length (recordBytes r); clipped = r .head .clipped });
+      state = applied s r;
+      transcript = sets transcript fill (recordBytes r);
+    }
 outcomeOf s place transcript fill (refused why) = kept s transcript (Refused why)
 
 abbrev pub unlessRefused : Asked → State → List ℕ → Outcome → Outcome

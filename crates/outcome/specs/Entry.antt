@@ -47,7 +47,7 @@ stateAfter frame quantiser ry rcb rcr y cb cr mv marks = stateNow frame quantise
 
 -- the quantiser after an answer: a refused call keeps it
 abbrev pub quantiserBy : ℕ → MbAnswer → ℕ
-quantiserBy q (Accepted place quantiser fill clipped) = quantiser
+quantiserBy q (Accepted report) = report .quantiser
 quantiserBy q (Refused why) = q
 
 abbrev pub left : MbAnswer → State → List ℕ → Outcome
@@ -55,5 +55,5 @@ left answer s transcript = record { answer = answer; state = s; transcript = tra
 
 -- where an answer leaves the caller's place and quantiser
 abbrev pub cursorBy : ℕ → ℕ → MbAnswer → Cursor
-cursorBy place q (Accepted next quantiser fill clipped) = record { place = next; quantiser = quantiser }
+cursorBy place q (Accepted report) = record { place = report .place; quantiser = report .quantiser }
 cursorBy place q (Refused why) = record { place = place; quantiser = q }

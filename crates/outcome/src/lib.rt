@@ -4,9 +4,16 @@ ghost use Rattle.outcome.specs.Entry.{cursorBy};
 use reading::svq3_frame::Flags;
 use refusal::Refusal;
 
+// What an accepted call leaves: the place after it, the quantiser and the transcript's fill; and how many components it clipped.
+pub struct MbReport {
+    pub place: usize,
+    pub quantiser: u32,
+    pub fill: usize,
+    pub clipped: u32,
+}
+
 pub enum MbAnswer {
-    // the place after it, the quantiser, the transcript's fill after it and the clipped count
-    Accepted(usize, u32, usize, u32),
+    Accepted(MbReport),
     Refused(Refusal),
 }
 
@@ -28,9 +35,9 @@ pub fn cursor_by(place: usize, quantiser: u32, answer: MbAnswer) -> Cursor
     ensures { λ r. ⌜ r ≡ cursorBy place quantiser answer ⌝ }
 {
     match answer {
-        MbAnswer::Accepted(next, after, _, _) => Cursor {
-            place: next,
-            quantiser: after,
+        MbAnswer::Accepted(report) => Cursor {
+            place: report.place,
+            quantiser: report.quantiser,
         },
         MbAnswer::Refused(_) => Cursor { place, quantiser },
     }

@@ -74,13 +74,13 @@ module _ (s : State) (bytes : List ℕ) where
           go (refused w) x h = apart h
 
       -- all were applied: the slices make the state S q with the quantiser q
-      pub all-applied : (S : ℕ → State) (q : ℕ) → S q .quantiser ≡ q → S q ≡ allLeft s bytes → record { answer = Replayed n q; state = S q } ≡ replayed s bytes
+      pub all-applied : (S : ℕ → State) (q : ℕ) → S q .quantiser ≡ q → S q ≡ allLeft s bytes → record { answer = Replayed (record { records = n; quantiser = q }); state = S q } ≡ replayed s bytes
       unfolding replayOf allLeft
       all-applied S q z w = go (records (s .cols) (s .rows) bytes) e w ∙ asked-is
         where
-          go : (g : Got (List Record)) → check.Records n ≡ checkAnswer g → S q ≡ appliedOf s g → record { answer = Replayed n q; state = S q } ≡ replayOf s g
+          go : (g : Got (List Record)) → check.Records n ≡ checkAnswer g → S q ≡ appliedOf s g → record { answer = Replayed (record { records = n; quantiser = q }); state = S q } ≡ replayOf s g
           go (got rs k) h x =
               let m : n ≡ length rs = cc in
               let v : q ≡ appliedAll s rs .quantiser = sym z ∙ ap (λ (t : State). t .quantiser) x in
-              λ i. record { answer = Replayed (m i) (v i); state = x i }
+              λ i. record { answer = Replayed (record { records = m i; quantiser = v i }); state = x i }
           go (refused w′) h x = apart h

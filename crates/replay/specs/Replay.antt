@@ -24,7 +24,7 @@ pub record Replay : Type 0 where
   pub state : State
 
 unfoldable pub replayOf : State → Got (List Record) → Replay
-replayOf s (got rs n) = let t = appliedAll s rs in record { answer = Replayed (length rs) (t .quantiser); state = t }
+replayOf s (got rs n) = let t = appliedAll s rs in record { answer = Replayed (record { records = length rs; quantiser = t .quantiser }); state = t }
 replayOf s (refused why) = record { answer = Refused why; state = s }
 
 abbrev pub unlessAsked : Asked → State → Replay → Replay
@@ -37,7 +37,7 @@ replayed s bytes = unlessAsked (askReplay (s .cols) (s .rows) (lengthsOf s) (s .
 
 -- the quantiser after an answer: a refused replay keeps it
 abbrev pub quantiserOf : ℕ → ReplayAnswer → ℕ
-quantiserOf q (Replayed n after) = after
+quantiserOf q (Replayed report) = report .quantiser
 quantiserOf q (Refused why) = q
 
 -- an answer and the state that the slices make

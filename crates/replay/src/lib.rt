@@ -3,8 +3,13 @@ use refusal::Refusal;
 
 pub mod replay;
 
+// The number of records, and the quantiser after them.
+pub struct ReplayReport {
+    pub records: usize,
+    pub quantiser: u32,
+}
+
 pub enum ReplayAnswer {
-    // the number of records, and the quantiser after them
-    Replayed(usize, u32),
+    Replayed(ReplayReport),
     Refused(Refusal),
 }

@@ -7,6 +7,7 @@ ghost use Rattle.outcome.specs.Entry.{stateBefore, stateAfter};
 ghost use Rattle.replay.specs.Replay.{replayed, quantiserOf, replayLeft};
 ghost use Rattle.replay.specs.Recorded.{Recorded, allLeft};
 use crate::ReplayAnswer;
+use crate::ReplayReport;
 use checking::CheckAnswer;
 use checking::check_records;
 use outcome::Frame;
@@ -31,7 +32,8 @@ fn replay_records(
 ) -> u32
     requires { ⌜ (frame .cols ≤ 4096) × (frame .rows ≤ 4096) × Recorded (frame .cols) (frame .rows) (now bytes) ⌝ }
     requires { ⌜ Sized (frame .cols) (frame .rows) (length (now y)) (length (now cb)) (length (now cr)) × Sized (frame .cols) (frame .rows) (length (now ry)) (length (now rcb)) (length (now rcr)) × (length (now mv) ≡ 2 * cellCount (frame .cols) (frame .rows)) × (length (now marks) ≡ cellCount (frame .cols) (frame .rows)) ⌝ }
-    ensures { λ r. ⌜ stateAfter frame r ry rcb rcr y cb cr mv marks ≡ allLeft (stateBefore frame quantiser ry rcb rcr y cb cr mv marks) (now (bytes .entry)) ⌝ }
+    ensures { λ r. ⌜ stateAfter frame r ry rcb rcr y cb cr mv marks
+        ≡ allLeft (stateBefore frame quantiser ry rcb rcr y cb cr mv marks) (now (bytes .entry)) ⌝ }
 {
     let mut q = quantiser;
     let mut at = 0;
@@ -57,7 +59,8 @@ pub fn replay(
     frame: Frame,
     quantiser: u32,
 ) -> ReplayAnswer
-    ensures { λ r. ⌜ replayLeft r (stateAfter frame (quantiserOf quantiser r) ry rcb rcr y cb cr mv marks) ≡ replayed (stateBefore frame quantiser ry rcb rcr y cb cr mv marks) (now (bytes .entry)) ⌝ }
+    ensures { λ r. ⌜ replayLeft r (stateAfter frame (quantiserOf quantiser r) ry rcb rcr y cb cr mv marks)
+        ≡ replayed (stateBefore frame quantiser ry rcb rcr y cb cr mv marks) (now (bytes .entry)) ⌝ }
 {
     let l = Lengths {
         y: y.len(),
@@ -73,7 +76,10 @@ pub fn replay(
         Asked::Yes => match check_records(bytes, frame.cols, frame.rows) {
             CheckAnswer::Records(n) => {
                 let q = replay_records(y, cb, cr, mv, marks, ry, rcb, rcr, bytes, frame, quantiser);
-                ReplayAnswer::Replayed(n, q)
+                ReplayAnswer::Replayed(ReplayReport {
+                    records: n,
+                    quantiser: q,
+                })
             }
             CheckAnswer::Refused(why) => ReplayAnswer::Refused(why),
         },

@@ -38,7 +38,7 @@ withCall call clipped r =
 
 -- the calls after one that answered
 abbrev pub onward : Call → State → ℕ → List ℕ → ℕ → MbAnswer → (ℕ → ℕ → Ran) → Ran
-onward call s place transcript fill (Accepted p q f clipped) next = withCall call clipped (next p f)
+onward call s place transcript fill (Accepted report) next = withCall call (report .clipped) (next (report .place) (report .fill))
 onward call s place transcript fill (Refused why) next = ended s place transcript fill (By why)
 
 unfoldable pub ranFrom : State → List Call → List ℕ → ℕ → List ℕ → ℕ → Ran

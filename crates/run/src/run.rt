@@ -29,7 +29,8 @@ pub fn run(
     quantiser: u32,
     place: usize,
 ) -> Report
-    ensures { λ r. ⌜ leftOf r (stateAfter frame (r .quantiser) ry rcb rcr y cb cr mv marks) (now (transcript .exit)) ≡ listLeft (stateBefore frame quantiser ry rcb rcr y cb cr mv marks) (now (list .entry)) (now (bits .entry)) place (now (transcript .entry)) ⌝ }
+    ensures { λ r. ⌜ leftOf r (stateAfter frame (r .quantiser) ry rcb rcr y cb cr mv marks) (now (transcript .exit))
+        ≡ listLeft (stateBefore frame quantiser ry rcb rcr y cb cr mv marks) (now (list .entry)) (now (bits .entry)) place (now (transcript .entry)) ⌝ }
 {
     match check_calls(list) {
         CallsAnswer::Calls(n) => {

@@ -17,6 +17,7 @@ use Rattle.outcome.specs.State.{State}
 use Rattle.outcome.specs.Decode.{Outcome, kept, decoded}
 use Rattle.outcome.specs.Entry.{quantiserBy}
 use Rattle.outcome.proofs.Answers.{refused-kept, accepted-on}
+use Rattle.outcome.specs.declared.MbReport.{MbReport}
 use Rattle.outcome.specs.declared.MbAnswer.{MbAnswer}
 use Rattle.outcome.specs.declared.MbAnswer.the-variants.{Accepted, Refused}
 use Rattle.report.specs.Run.{Ran, ended, withCall, onward, ranFrom}
@@ -91,16 +92,16 @@ module _ {whole : Left} {s : State} {list bits : List ℕ} {place at p : ℕ} {t
           ∙ ap (leaves accepted place) (sym this) ∙ g .same
 
       -- the place has not moved back
-      pub forward : {p₁ q₁ f₁ k : ℕ} → a ≡ Accepted p₁ q₁ f₁ k → p ≤ p₁
+      pub forward : {report : MbReport} → a ≡ Accepted report → p ≤ report .place
       forward h = accepted-on s call bits p t fill (told h) refl
 
-      pub on : {p₁ q₁ f₁ k : ℕ} → a ≡ Accepted p₁ q₁ f₁ k → Going whole (S q₁) list bits place next p₁ t′ f₁ (accepted + 1) (consumed + (p₁ - p))
+      pub on : {report : MbReport} → a ≡ Accepted report → Going whole (S (report .quantiser)) list bits place next (report .place) t′ (report .fill) (accepted + 1) (consumed + (report .place - p))
       unfolding leaves ranFrom withCall
-      on {p₁} {q₁} {f₁} {k} h =
+      on {report} h =
           let d = told h in
           let n = next-call in
           let l : Listed (drop next list) = record { cs = n .rest; taken = n .m; is = ap (λ (i : ℕ). calls (drop i list)) next-is ∙ n .behind } in
-          let r = ranFrom (S q₁) (n .rest) bits p₁ t′ f₁ in
+          let r = ranFrom (S (report .quantiser)) (n .rest) bits (report .place) t′ (report .fill) in
           let z : accepted + 1 + length (r .accepted) ≡ accepted + suc (length (r .accepted)) = omega arith in
           let m = forward h in
           record {

@@ -30,7 +30,8 @@ pub fn run_calls(
     place: usize,
 ) -> Report
     requires { ⌜ Listed (now list) ⌝ }
-    ensures { λ r. ⌜ leftOf r (stateAfter frame (r .quantiser) ry rcb rcr y cb cr mv marks) (now (transcript .exit)) ≡ callsLeft (stateBefore frame quantiser ry rcb rcr y cb cr mv marks) (now (list .entry)) (now (bits .entry)) place (now (transcript .entry)) ⌝ }
+    ensures { λ r. ⌜ leftOf r (stateAfter frame (r .quantiser) ry rcb rcr y cb cr mv marks) (now (transcript .exit))
+        ≡ callsLeft (stateBefore frame quantiser ry rcb rcr y cb cr mv marks) (now (list .entry)) (now (bits .entry)) place (now (transcript .entry)) ⌝ }
 {
     let mut q = quantiser;
     let mut p = place;
@@ -66,11 +67,11 @@ pub fn run_calls(
             p,
             fill,
         ) {
-            MbAnswer::Accepted(after, quantiser_after, fill_after, _) => {
-                consumed += after - p;
-                p = after;
-                q = quantiser_after;
-                fill = fill_after;
+            MbAnswer::Accepted(report) => {
+                consumed += report.place - p;
+                p = report.place;
+                q = report.quantiser;
+                fill = report.fill;
                 accepted += 1;
                 at = next;
             }

@@ -32,10 +32,10 @@ pub fn frame_of(head: &[u8; 80]) -> Frame {
 // The count of records is at 12, the quantiser afterwards at 28, in a run's head too. No refusal of a replay has a detail.
 fn answered(got: ReplayAnswer, head: &[u8; 80], number: u32) -> bool {
     match got {
-        ReplayAnswer::Replayed(records, quantiser) => {
+        ReplayAnswer::Replayed(report) => {
             (number == 0)
-                & (records == number_at(head, 12) as usize)
-                & (quantiser == number_at(head, 28))
+                & (report.records == number_at(head, 12) as usize)
+                & (report.quantiser == number_at(head, 28))
         }
         ReplayAnswer::Refused(why) => {
             (refusal::number_of(why) == number) & (refusal::detail_of(why) == 0)

@@ -82,7 +82,7 @@ list-untouched s list bits place room why e = go (calls list)
 
 -- ---- the theorem
 abbrev pub answerOf : Asked → ℕ → ℕ → ReplayAnswer
-answerOf Yes n q = Replayed n q
+answerOf Yes n q = Replayed (record { records = n; quantiser = q })
 answerOf (No why) n q = Refused why
 
 count-of : (rs : List Record) → length (callsOf rs) ≡ length rs

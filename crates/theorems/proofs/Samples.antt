@@ -39,6 +39,7 @@ use Rattle.apply.specs.Apply.{appliedChroma}
 use Rattle.apply.proofs.Macroblocks.{skip-luma, coded-luma, skip-chroma, coded-chroma}
 use Rattle.outcome.specs.State.{State, contextOf, lengthsOf}
 use Rattle.outcome.specs.Decode.{applied, Outcome, outcomeOf, decoded}
+use Rattle.outcome.specs.declared.MbReport.{MbReport}
 use Rattle.outcome.specs.declared.MbAnswer.the-variants.{Accepted}
 use Rattle.theorems.specs.Trace.{Ready}
 use Rattle.theorems.specs.Samples.{Plane, Luma, Cb, Cr, referenceOf, pictureOf, unitOf, widthOf, heightOf, pictureAt, referenceAt, compensatedAt, ofTaps, quadrantAt, codedAt, lumaResidualAt, chromaResidualAt, withResidualAt}
@@ -55,7 +56,7 @@ pub record Reading (s : State) (call : Call) (bits : List ℕ) (place : ℕ) (af
   pub ready : Ready s call
   pub sized : StateSized (s .cols) (s .rows) (lengthsOf s)
 
-pub accepted-reads : (s : State) (call : Call) (bits : List ℕ) (place : ℕ) (t : List ℕ) (fill : ℕ) {p q f k : ℕ} → decoded s call bits place t fill .answer ≡ Accepted p q f k
+pub accepted-reads : (s : State) (call : Call) (bits : List ℕ) (place : ℕ) (t : List ℕ) (fill : ℕ) {report : MbReport} → decoded s call bits place t fill .answer ≡ Accepted report
     → Reading s call bits place (decoded s call bits place t fill .state)
 unfolding outcomeOf askReplay
 accepted-reads s call bits place t fill a = go (kind s call bits place t fill)
@@ -159,7 +160,7 @@ module _ {s : State} {call : Call} {r : Record} {after : State} (g : Applying s 
 
 -- ---- the theorems
 module _ (s : State) (call : Call) (bits : List ℕ) (place : ℕ) (room : List ℕ) (fill : ℕ)
-    {next quantiser end clipped : ℕ} (accepted : decoded s call bits place room fill .answer ≡ Accepted next quantiser end clipped) where
+    {report : MbReport} (accepted : decoded s call bits place room fill .answer ≡ Accepted report) where
   abbrev after : State
   after = decoded s call bits place room fill .state
 

@@ -11,7 +11,6 @@ use lib.Seq.{sets, sets-eq, length-sets, drop-drop, take-at, take-append-le}
 use Rattle.refusal.specs.Got.{Got, got, refused}
 use Rattle.refusal.specs.declared.Refusal.{Refusal}
 use Rattle.bits.specs.Bits.{bitList}
-use Rattle.questions.specs.Questions.{askCall}
 use Rattle.questions.specs.declared.Call.{Call}
 use Rattle.questions.specs.declared.Asked.{Asked}
 use Rattle.questions.specs.declared.Asked.the-variants.{Yes, No}
@@ -22,8 +21,8 @@ use Rattle.record.proofs.Lengths.{record-length, head-range}
 use Rattle.reading.specs.Read.{readMacroblock}
 use Rattle.reading.specs.Bits.{callOf}
 use Rattle.reading.proofs.Took.{read-range, read-call}
-use Rattle.outcome.specs.State.{State, contextOf, lengthsOf}
-use Rattle.outcome.specs.Decode.{applied, quantiserAfter, Outcome, kept, outcomeOf, unlessRefused, decoded}
+use Rattle.outcome.specs.State.{State, contextOf}
+use Rattle.outcome.specs.Decode.{applied, quantiserAfter, Outcome, kept, outcomeOf, unlessRefused, asked, decoded}
 use Rattle.outcome.specs.declared.MbAnswer.the-variants.{Accepted, Refused}
 use Rattle.report.specs.Run.{Ran, ended, withCall, onward, ranFrom}
 use Rattle.report.specs.declared.Stop.{Stop}
@@ -40,10 +39,10 @@ pub data Kind (s : State) (call : Call) (bits : List ℕ) (place : ℕ) (t : Lis
 pub kind : (s : State) (call : Call) (bits : List ℕ) (place : ℕ) (t : List ℕ) (fill : ℕ) → Kind s call bits place t fill
 unfolding decoded outcomeOf
 kind s call bits place t fill =
-    go (askCall (s .cols) (s .rows) (lengthsOf s) call (s .quantiser) (length bits) place (length t - fill)) refl
+    go (asked s call bits place t fill) refl
     (readMacroblock (contextOf s) call (drop place (bitList bits))) refl
   where
-    go : (a : Asked) → askCall (s .cols) (s .rows) (lengthsOf s) call (s .quantiser) (length bits) place (length t - fill) ≡ a
+    go : (a : Asked) → asked s call bits place t fill ≡ a
         → (g : Got Record) → readMacroblock (contextOf s) call (drop place (bitList bits)) ≡ g → Kind s call bits place t fill
     go (No why) e g h = no why (rw e)
     go Yes e (refused why) h = no why (rw (e, h))

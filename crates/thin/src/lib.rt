@@ -36,7 +36,9 @@ pub fn run_at(
     cursor: &mut Cursor,
     frame: Frame,
 ) -> Report
-    ensures { λ r. ⌜ (leftOf r (stateAfter frame (r .quantiser) ry rcb rcr y cb cr mv marks) (now (transcript .exit)) ≡ listLeft (stateBefore frame (now (cursor .entry) .quantiser) ry rcb rcr y cb cr mv marks) (now (list .entry)) (now (bits .entry)) (now (cursor .entry) .place) (now (transcript .entry))) × (now (cursor .exit) ≡ cursorOf r) ⌝ }
+    ensures { λ r. ⌜ (leftOf r (stateAfter frame (r .quantiser) ry rcb rcr y cb cr mv marks) (now (transcript .exit))
+        ≡ listLeft (stateBefore frame (now (cursor .entry) .quantiser) ry rcb rcr y cb cr mv marks) (now (list .entry)) (now (bits .entry)) (now (cursor .entry) .place) (now (transcript .entry)))
+        × (now (cursor .exit) ≡ cursorOf r) ⌝ }
 {
     let place = cursor.place;
     let quantiser = cursor.quantiser;

@@ -26,7 +26,9 @@ pub fn decode_inter_mb_at(
     call: Call,
     fill: usize,
 ) -> MbAnswer
-    ensures { λ r. ⌜ (left r (stateAfter frame (now (cursor .exit) .quantiser) ry rcb rcr y cb cr mv marks) (now (transcript .exit)) ≡ decoded (stateBefore frame (now (cursor .entry) .quantiser) ry rcb rcr y cb cr mv marks) call (now (bits .entry)) (now (cursor .entry) .place) (now (transcript .entry)) fill) × (now (cursor .exit) ≡ cursorBy (now (cursor .entry) .place) (now (cursor .entry) .quantiser) r) ⌝ }
+    ensures { λ r. ⌜ (left r (stateAfter frame (now (cursor .exit) .quantiser) ry rcb rcr y cb cr mv marks) (now (transcript .exit))
+        ≡ decoded (stateBefore frame (now (cursor .entry) .quantiser) ry rcb rcr y cb cr mv marks) call (now (bits .entry)) (now (cursor .entry) .place) (now (transcript .entry)) fill)
+        × (now (cursor .exit) ≡ cursorBy (now (cursor .entry) .place) (now (cursor .entry) .quantiser) r) ⌝ }
 {
     let place = cursor.place;
     let quantiser = cursor.quantiser;

@@ -1,13 +1,12 @@
 -- `run_calls::run_calls` meets its contract. The loop's invariant: what the calls that are left will leave is what the list leaves.
 use mathlib.Core.Path.{_≡_, refl, sym, ap, _∙_}
-use Prim.Native.Nat.{ℕ, _+_, _-_, _^_, _≤_, _<_}
+use Prim.Native.Nat.{_-_, _≤_}
 use native.Mathlib.Omega.{arith}
 use borrow.Author.Needs.{needs}
 use denote.Ref.{now}
 use lib.ListN.{length}
-use Rattle.outcome.specs.State.{State}
 use Rattle.outcome.specs.Entry.{stateOf}
-use Rattle.report.specs.Left.{Left, callsLeft}
+use Rattle.report.specs.Left.{leftOf, callsLeft}
 use Rattle.report.specs.declared.Report.{Report}
 use Rattle.run_calls.proofs.Laws.{Going, start, end, in-form, stopped, on, further, forward}
 use Rattle.run_calls.proofs.run_calls.Statement.{statement}
@@ -61,29 +60,59 @@ returns c = in-form (c .before .before .before .before .before .loop .inv .6) (c
 decode-inter-mb-requires : tie.Need-decode-inter-mb-requires Inv-loop μ-loop
 decode-inter-mb-requires c κs = tt
 
-enum-known-after : tie.Need-enum-known-after Inv-loop μ-loop
-enum-known-after c = search needs
+enum-known-report : tie.Need-enum-known-report Inv-loop μ-loop
+enum-known-report c = search needs
 
--- the place after an accepted call
-moved-on : (c : tie.After-known-told2 Inv-loop μ-loop) → c .before .before .before .before .before .before .before .before .before .before .before .before .before .before .before .before .before .before .before .before .before .before .before .before .before .before .loop .p ≤ c .before .after .given .0 .0
-moved-on c = forward (c .before .before .before .before .before .before .before .before .before .before .before .before .before .before .before .before .before .before .before .before .before .before .before .before .before .before .loop .inv .6) (c .before .before .before .before .before .before .before .before .before .before .before .before .before .before .before .before .before .before .before .before .before .before .before .before .before .loop-test .taken) (sym (c .before .before .before .before .before .before .before .before .before .before .before .before .before .before .before .before .before .before .before .before .before .before .call .given .1) ∙ c .before .before .before .before .before .before .before .before .before .before .before .before .before .before .before .before .before .before .before .before .before .before .before .before .read-call .ensures) (c .before .before .before .before .before .before .before .before .before .before .before .before .before .before .before .before .before .before .before .before .before .before .before .before .before .before .loop .q) refl (λ q. stateOf (c .before .before .before .before .before .before .before .before .before .before .before .before .before .before .before .before .before .before .before .before .before .before .before .before .before .before .before .before .before .before .before .before .before .before .before .before .before .args .frame) q (now (c .before .before .before .before .before .before .before .before .before .before .before .before .before .before .before .before .before .before .before .before .before .before .before .before .before .before .before .before .before .before .before .before .before .before .before .before .before .args .ry)) (now (c .before .before .before .before .before .before .before .before .before .before .before .before .before .before .before .before .before .before .before .before .before .before .before .before .before .before .before .before .before .before .before .before .before .before .before .before .before .args .rcb)) (now (c .before .before .before .before .before .before .before .before .before .before .before .before .before .before .before .before .before .before .before .before .before .before .before .before .before .before .before .before .before .before .before .before .before .before .before .before .before .args .rcr)) (c .before .before .before .before .before .before .before .before .before .before .before .before .before .before .decode-inter-mb .last .0) (c .before .before .before .before .before .before .before .before .before .before .before .before .before .before .decode-inter-mb .last .1 .0) (c .before .before .before .before .before .before .before .before .before .before .before .before .before .before .decode-inter-mb .last .1 .1 .0) (c .before .before .before .before .before .before .before .before .before .before .before .before .before .before .decode-inter-mb .last .1 .1 .1 .0) (c .before .before .before .before .before .before .before .before .before .before .before .before .before .before .decode-inter-mb .last .1 .1 .1 .1 .0)) (c .before .before .before .before .before .before .before .before .before .before .before .before .before .before .decode-inter-mb .result) (c .before .before .before .before .before .before .before .before .before .before .before .before .before .before .decode-inter-mb .last .1 .1 .1 .1 .1 .0) (c .before .before .before .before .before .before .before .before .before .before .before .before .before .before .decode-inter-mb .ensures) (c .before .after .given .1)
+-- ---- an accepted call
+-- its place is not before the last
+moved-on : (c : tie.After-struct-known Inv-loop μ-loop) → c .before .before .before .before .before .before .before .before .before .before .before .before .before .before .before .before .before .before .before .before .before .before .before .before .before .before .before .loop .p ≤ c .before .before .report .given .0 .0 .place
+moved-on c =
+    let l = c .before .before .before .before .before .before .before .before .before .before .before .before .before .before .before .before .before .before .before .before .before .before .before .before .before .before .before .loop in
+    let a = c .before .before .before .before .before .before .before .before .before .before .before .before .before .before .before .before .before .before .before .before .before .before .before .before .before .before .before .before .before .before .before .before .before .before .before .before .before .before .args in
+    let d = c .before .before .before .before .before .before .before .before .before .before .before .before .before .before .before .decode-inter-mb in
+    forward (l .inv .6) (c .before .before .before .before .before .before .before .before .before .before .before .before .before .before .before .before .before .before .before .before .before .before .before .before .before .before .loop-test .taken) (sym (c .before .before .before .before .before .before .before .before .before .before .before .before .before .before .before .before .before .before .before .before .before .before .before .call .given .1) ∙ c .before .before .before .before .before .before .before .before .before .before .before .before .before .before .before .before .before .before .before .before .before .before .before .before .before .read-call .ensures) (l .q) refl
+    (λ q. stateOf (a .frame) q (now (a .ry)) (now (a .rcb)) (now (a .rcr)) (d .last .0) (d .last .1 .0) (d .last .1 .1 .0) (d .last .1 .1 .1 .0) (d .last .1 .1 .1 .1 .0))
+    (d .result) (d .last .1 .1 .1 .1 .1 .0) (d .ensures) (c .before .before .report .given .1)
 
 sub-consumed : tie.Need-sub-consumed Inv-loop μ-loop
-sub-consumed c = omega (arith, c .before .before .before .before .before .before .before .before .before .before .before .before .before .before .before .before .before .before .before .before .before .before .before .before .before .before .loop .inv .6 .onward, moved-on c)
+sub-consumed c = omega (arith, c .before .before .before .before .before .before .before .before .before .before .before .before .before .before .before .before .before .before .before .before .before .before .before .before .before .before .before .loop .inv .6 .onward, moved-on c)
 
 add-consumed : tie.Need-add-consumed Inv-loop μ-loop
 add-consumed c =
-    let h : c .before .after .given .0 .0 < 2 ^ 64 = c .known-told2 .given .0 .1 in
-    omega (arith, c .before .before .before .before .before .before .before .before .before .before .before .before .before .before .before .before .before .before .before .before .before .before .before .before .before .before .loop .inv .6 .onward, c .before .before .before .before .before .before .before .before .before .before .before .before .before .before .before .before .before .before .before .before .before .before .before .before .before .before .loop .inv .6 .counted, moved-on c, h)
+    let i = c .before .before .before .before .before .before .before .before .before .before .before .before .before .before .before .before .before .before .before .before .before .before .before .before .before .before .before .loop .inv .6 in
+    omega (arith, i .onward, i .counted, moved-on c, c .struct-known .given .0)
 
 add-accepted : tie.Need-add-accepted Inv-loop μ-loop
-add-accepted c = omega (arith, c .before .before .before .before .before .before .before .before .before .before .before .before .before .before .before .before .before .before .before .before .before .before .before .before .before .before .loop .inv .6 .few, c .before .before .before .before .before .before .before .before .before .before .before .before .before .before .before .before .before .before .before .before .before .before .before .before .before .loop-test .taken, c .before .before .before .before .before .before .before .before .before .before .before .before .before .before .before .before .before .before .before .before .before .before .before .before .before .before .before .before .before .before .before .before .before .before .before .before .before .good .1 .1 .1 .1 .1 .1 .1 .1 .1 .1 .0 .0)
+add-accepted c = omega (arith, c .before .before .before .before .before .before .before .before .before .before .before .before .before .before .before .before .before .before .before .before .before .before .before .before .before .before .before .loop .inv .6 .few, c .before .before .before .before .before .before .before .before .before .before .before .before .before .before .before .before .before .before .before .before .before .before .before .before .before .before .loop-test .taken, c .before .before .before .before .before .before .before .before .before .before .before .before .before .before .before .before .before .before .before .before .before .before .before .before .before .before .before .before .before .before .before .before .before .before .before .before .before .before .good .1 .1 .1 .1 .1 .1 .1 .1 .1 .1 .0 .0)
 
 loop-less : tie.Need-loop-less Inv-loop μ-loop
-loop-less c = omega (arith, c .before .before .before .before .before .before .before .before .before .before .before .before .before .before .before .before .before .before .before .before .before .before .before .before .before .loop-test .taken, further (c .before .before .before .before .before .before .before .before .before .before .before .before .before .before .before .before .before .before .before .before .before .before .before .before .before .before .loop .inv .6) (c .before .before .before .before .before .before .before .before .before .before .before .before .before .before .before .before .before .before .before .before .before .before .before .before .before .loop-test .taken) (sym (c .before .before .before .before .before .before .before .before .before .before .before .before .before .before .before .before .before .before .before .before .before .before .call .given .1) ∙ c .before .before .before .before .before .before .before .before .before .before .before .before .before .before .before .before .before .before .before .before .before .before .before .before .read-call .ensures) (c .before .before .before .before .before .before .before .before .before .before .before .before .before .before .before .before .before .before .before .before .before .before .before .before .before .before .loop .q) refl (λ q. stateOf (c .before .before .before .before .before .before .before .before .before .before .before .before .before .before .before .before .before .before .before .before .before .before .before .before .before .before .before .before .before .before .before .before .before .before .before .before .before .args .frame) q (now (c .before .before .before .before .before .before .before .before .before .before .before .before .before .before .before .before .before .before .before .before .before .before .before .before .before .before .before .before .before .before .before .before .before .before .before .before .before .args .ry)) (now (c .before .before .before .before .before .before .before .before .before .before .before .before .before .before .before .before .before .before .before .before .before .before .before .before .before .before .before .before .before .before .before .before .before .before .before .before .before .args .rcb)) (now (c .before .before .before .before .before .before .before .before .before .before .before .before .before .before .before .before .before .before .before .before .before .before .before .before .before .before .before .before .before .before .before .before .before .before .before .before .before .args .rcr)) (c .before .before .before .before .before .before .before .before .before .before .before .before .before .before .decode-inter-mb .last .0) (c .before .before .before .before .before .before .before .before .before .before .before .before .before .before .decode-inter-mb .last .1 .0) (c .before .before .before .before .before .before .before .before .before .before .before .before .before .before .decode-inter-mb .last .1 .1 .0) (c .before .before .before .before .before .before .before .before .before .before .before .before .before .before .decode-inter-mb .last .1 .1 .1 .0) (c .before .before .before .before .before .before .before .before .before .before .before .before .before .before .decode-inter-mb .last .1 .1 .1 .1 .0)) (c .before .before .before .before .before .before .before .before .before .before .before .before .before .before .decode-inter-mb .result) (c .before .before .before .before .before .before .before .before .before .before .before .before .before .before .decode-inter-mb .last .1 .1 .1 .1 .1 .0) (c .before .before .before .before .before .before .before .before .before .before .before .before .before .before .decode-inter-mb .ensures))
+loop-less c =
+    let l = c .before .before .before .before .before .before .before .before .before .before .before .before .before .before .before .before .before .before .before .before .before .before .before .before .before .before .before .loop in
+    let a = c .before .before .before .before .before .before .before .before .before .before .before .before .before .before .before .before .before .before .before .before .before .before .before .before .before .before .before .before .before .before .before .before .before .before .before .before .before .before .args in
+    let d = c .before .before .before .before .before .before .before .before .before .before .before .before .before .before .before .decode-inter-mb in
+    omega (
+      arith,
+      c .before .before .before .before .before .before .before .before .before .before .before .before .before .before .before .before .before .before .before .before .before .before .before .before .before .before .loop-test .taken,
+      further (l .inv .6) (c .before .before .before .before .before .before .before .before .before .before .before .before .before .before .before .before .before .before .before .before .before .before .before .before .before .before .loop-test .taken) (sym (c .before .before .before .before .before .before .before .before .before .before .before .before .before .before .before .before .before .before .before .before .before .before .before .call .given .1) ∙ c .before .before .before .before .before .before .before .before .before .before .before .before .before .before .before .before .before .before .before .before .before .before .before .before .before .read-call .ensures) (l .q) refl
+          (λ q. stateOf (a .frame) q (now (a .ry)) (now (a .rcb)) (now (a .rcr)) (d .last .0) (d .last .1 .0) (d .last .1 .1 .0) (d .last .1 .1 .1 .0) (d .last .1 .1 .1 .1 .0))
+          (d .result) (d .last .1 .1 .1 .1 .1 .0) (d .ensures),
+    )
 
 loop-again : tie.Need-loop-again Inv-loop μ-loop
-loop-again c = (c .before .before .before .before .before .before .before .before .before .before .before .before .before .before .decode-inter-mb .kept .0 ∙ c .before .before .before .before .before .before .before .before .before .before .before .before .before .before .before .before .before .before .before .before .before .before .before .before .before .before .loop .inv .0, c .before .before .before .before .before .before .before .before .before .before .before .before .before .before .decode-inter-mb .kept .1 .0 ∙ c .before .before .before .before .before .before .before .before .before .before .before .before .before .before .before .before .before .before .before .before .before .before .before .before .before .before .loop .inv .1, c .before .before .before .before .before .before .before .before .before .before .before .before .before .before .decode-inter-mb .kept .1 .1 .0 ∙ c .before .before .before .before .before .before .before .before .before .before .before .before .before .before .before .before .before .before .before .before .before .before .before .before .before .before .loop .inv .2, c .before .before .before .before .before .before .before .before .before .before .before .before .before .before .decode-inter-mb .kept .1 .1 .1 .0 ∙ c .before .before .before .before .before .before .before .before .before .before .before .before .before .before .before .before .before .before .before .before .before .before .before .before .before .before .loop .inv .3, c .before .before .before .before .before .before .before .before .before .before .before .before .before .before .decode-inter-mb .kept .1 .1 .1 .1 .0 ∙ c .before .before .before .before .before .before .before .before .before .before .before .before .before .before .before .before .before .before .before .before .before .before .before .before .before .before .loop .inv .4, c .before .before .before .before .before .before .before .before .before .before .before .before .before .before .decode-inter-mb .kept .1 .1 .1 .1 .1 .0 ∙ c .before .before .before .before .before .before .before .before .before .before .before .before .before .before .before .before .before .before .before .before .before .before .before .before .before .before .loop .inv .5, on (c .before .before .before .before .before .before .before .before .before .before .before .before .before .before .before .before .before .before .before .before .before .before .before .before .before .before .loop .inv .6) (c .before .before .before .before .before .before .before .before .before .before .before .before .before .before .before .before .before .before .before .before .before .before .before .before .before .loop-test .taken) (sym (c .before .before .before .before .before .before .before .before .before .before .before .before .before .before .before .before .before .before .before .before .before .before .call .given .1) ∙ c .before .before .before .before .before .before .before .before .before .before .before .before .before .before .before .before .before .before .before .before .before .before .before .before .read-call .ensures) (c .before .before .before .before .before .before .before .before .before .before .before .before .before .before .before .before .before .before .before .before .before .before .before .before .before .before .loop .q) refl (λ q. stateOf (c .before .before .before .before .before .before .before .before .before .before .before .before .before .before .before .before .before .before .before .before .before .before .before .before .before .before .before .before .before .before .before .before .before .before .before .before .before .args .frame) q (now (c .before .before .before .before .before .before .before .before .before .before .before .before .before .before .before .before .before .before .before .before .before .before .before .before .before .before .before .before .before .before .before .before .before .before .before .before .before .args .ry)) (now (c .before .before .before .before .before .before .before .before .before .before .before .before .before .before .before .before .before .before .before .before .before .before .before .before .before .before .before .before .before .before .before .before .before .before .before .before .before .args .rcb)) (now (c .before .before .before .before .before .before .before .before .before .before .before .before .before .before .before .before .before .before .before .before .before .before .before .before .before .before .before .before .before .before .before .before .before .before .before .before .before .args .rcr)) (c .before .before .before .before .before .before .before .before .before .before .before .before .before .before .decode-inter-mb .last .0) (c .before .before .before .before .before .before .before .before .before .before .before .before .before .before .decode-inter-mb .last .1 .0) (c .before .before .before .before .before .before .before .before .before .before .before .before .before .before .decode-inter-mb .last .1 .1 .0) (c .before .before .before .before .before .before .before .before .before .before .before .before .before .before .decode-inter-mb .last .1 .1 .1 .0) (c .before .before .before .before .before .before .before .before .before .before .before .before .before .before .decode-inter-mb .last .1 .1 .1 .1 .0)) (c .before .before .before .before .before .before .before .before .before .before .before .before .before .before .decode-inter-mb .result) (c .before .before .before .before .before .before .before .before .before .before .before .before .before .before .decode-inter-mb .last .1 .1 .1 .1 .1 .0) (c .before .before .before .before .before .before .before .before .before .before .before .before .before .before .decode-inter-mb .ensures) (c .before .after .given .1))
+loop-again c =
+    let l = c .before .before .before .before .before .before .before .before .before .before .before .before .before .before .before .before .before .before .before .before .before .before .before .before .before .before .before .loop in
+    let a = c .before .before .before .before .before .before .before .before .before .before .before .before .before .before .before .before .before .before .before .before .before .before .before .before .before .before .before .before .before .before .before .before .before .before .before .before .before .before .args in
+    let d = c .before .before .before .before .before .before .before .before .before .before .before .before .before .before .before .decode-inter-mb in (
+      d .kept .0 ∙ l .inv .0,
+      d .kept .1 .0 ∙ l .inv .1,
+      d .kept .1 .1 .0 ∙ l .inv .2,
+      d .kept .1 .1 .1 .0 ∙ l .inv .3,
+      d .kept .1 .1 .1 .1 .0 ∙ l .inv .4,
+      d .kept .1 .1 .1 .1 .1 .0 ∙ l .inv .5,
+      on (l .inv .6) (c .before .before .before .before .before .before .before .before .before .before .before .before .before .before .before .before .before .before .before .before .before .before .before .before .before .before .loop-test .taken) (sym (c .before .before .before .before .before .before .before .before .before .before .before .before .before .before .before .before .before .before .before .before .before .before .before .call .given .1) ∙ c .before .before .before .before .before .before .before .before .before .before .before .before .before .before .before .before .before .before .before .before .before .before .before .before .before .read-call .ensures) (l .q) refl
+          (λ q. stateOf (a .frame) q (now (a .ry)) (now (a .rcb)) (now (a .rcr)) (d .last .0) (d .last .1 .0) (d .last .1 .1 .0) (d .last .1 .1 .1 .0) (d .last .1 .1 .1 .1 .0))
+          (d .result) (d .last .1 .1 .1 .1 .1 .0) (d .ensures) (c .before .before .report .given .1),
+    )
 
 enum-known-why : tie.Need-enum-known-why Inv-loop μ-loop
 enum-known-why c = search needs
@@ -110,7 +139,14 @@ same-length-12 : tie.Need-same-length-12 Inv-loop μ-loop
 same-length-12 c = c .before .before .before .before .before .before .before .before .before .before .before .before .before .before .before .decode-inter-mb .kept .1 .1 .1 .1 .1 .0 ∙ c .before .before .before .before .before .before .before .before .before .before .before .before .before .before .before .before .before .before .before .before .before .before .before .before .before .before .before .loop .inv .5
 
 returns-2 : tie.Need-returns-2 Inv-loop μ-loop
-returns-2 c = ap (λ (r : Report). record { report = r; state = stateOf (c .before .before .before .before .before .before .before .before .before .before .before .before .before .before .before .before .before .before .before .before .before .before .before .before .before .before .before .before .before .before .before .before .before .before .before .before .before .before .args .frame) (r .quantiser) (now (c .before .before .before .before .before .before .before .before .before .before .before .before .before .before .before .before .before .before .before .before .before .before .before .before .before .before .before .before .before .before .before .before .before .before .before .before .before .before .args .ry)) (now (c .before .before .before .before .before .before .before .before .before .before .before .before .before .before .before .before .before .before .before .before .before .before .before .before .before .before .before .before .before .before .before .before .before .before .before .before .before .before .args .rcb)) (now (c .before .before .before .before .before .before .before .before .before .before .before .before .before .before .before .before .before .before .before .before .before .before .before .before .before .before .before .before .before .before .before .before .before .before .before .before .before .before .args .rcr)) (c .before .before .before .before .before .before .before .before .before .before .before .before .before .before .before .decode-inter-mb .last .0) (c .before .before .before .before .before .before .before .before .before .before .before .before .before .before .before .decode-inter-mb .last .1 .0) (c .before .before .before .before .before .before .before .before .before .before .before .before .before .before .before .decode-inter-mb .last .1 .1 .0) (c .before .before .before .before .before .before .before .before .before .before .before .before .before .before .before .decode-inter-mb .last .1 .1 .1 .0) (c .before .before .before .before .before .before .before .before .before .before .before .before .before .before .before .decode-inter-mb .last .1 .1 .1 .1 .0); transcript = c .before .before .before .before .before .before .before .before .before .before .before .before .before .before .before .decode-inter-mb .last .1 .1 .1 .1 .1 .0 }) (c .report-of2 .ensures) ∙ stopped (c .before .before .before .before .before .before .before .before .before .before .before .before .before .before .before .before .before .before .before .before .before .before .before .before .before .before .before .loop .inv .6) (c .before .before .before .before .before .before .before .before .before .before .before .before .before .before .before .before .before .before .before .before .before .before .before .before .before .before .loop-test .taken) (sym (c .before .before .before .before .before .before .before .before .before .before .before .before .before .before .before .before .before .before .before .before .before .before .before .call .given .1) ∙ c .before .before .before .before .before .before .before .before .before .before .before .before .before .before .before .before .before .before .before .before .before .before .before .before .before .read-call .ensures) (c .before .before .before .before .before .before .before .before .before .before .before .before .before .before .before .before .before .before .before .before .before .before .before .before .before .before .before .loop .q) refl (λ q. stateOf (c .before .before .before .before .before .before .before .before .before .before .before .before .before .before .before .before .before .before .before .before .before .before .before .before .before .before .before .before .before .before .before .before .before .before .before .before .before .before .args .frame) q (now (c .before .before .before .before .before .before .before .before .before .before .before .before .before .before .before .before .before .before .before .before .before .before .before .before .before .before .before .before .before .before .before .before .before .before .before .before .before .before .args .ry)) (now (c .before .before .before .before .before .before .before .before .before .before .before .before .before .before .before .before .before .before .before .before .before .before .before .before .before .before .before .before .before .before .before .before .before .before .before .before .before .before .args .rcb)) (now (c .before .before .before .before .before .before .before .before .before .before .before .before .before .before .before .before .before .before .before .before .before .before .before .before .before .before .before .before .before .before .before .before .before .before .before .before .before .before .args .rcr)) (c .before .before .before .before .before .before .before .before .before .before .before .before .before .before .before .decode-inter-mb .last .0) (c .before .before .before .before .before .before .before .before .before .before .before .before .before .before .before .decode-inter-mb .last .1 .0) (c .before .before .before .before .before .before .before .before .before .before .before .before .before .before .before .decode-inter-mb .last .1 .1 .0) (c .before .before .before .before .before .before .before .before .before .before .before .before .before .before .before .decode-inter-mb .last .1 .1 .1 .0) (c .before .before .before .before .before .before .before .before .before .before .before .before .before .before .before .decode-inter-mb .last .1 .1 .1 .1 .0)) (c .before .before .before .before .before .before .before .before .before .before .before .before .before .before .before .decode-inter-mb .result) (c .before .before .before .before .before .before .before .before .before .before .before .before .before .before .before .decode-inter-mb .last .1 .1 .1 .1 .1 .0) (c .before .before .before .before .before .before .before .before .before .before .before .before .before .before .before .decode-inter-mb .ensures) (c .before .before .why .given .1)
+returns-2 c =
+    let l = c .before .before .before .before .before .before .before .before .before .before .before .before .before .before .before .before .before .before .before .before .before .before .before .before .before .before .before .loop in
+    let a = c .before .before .before .before .before .before .before .before .before .before .before .before .before .before .before .before .before .before .before .before .before .before .before .before .before .before .before .before .before .before .before .before .before .before .before .before .before .before .args in
+    let d = c .before .before .before .before .before .before .before .before .before .before .before .before .before .before .before .decode-inter-mb in
+    ap (λ (r : Report). leftOf r (stateOf (a .frame) (r .quantiser) (now (a .ry)) (now (a .rcb)) (now (a .rcr)) (d .last .0) (d .last .1 .0) (d .last .1 .1 .0) (d .last .1 .1 .1 .0) (d .last .1 .1 .1 .1 .0)) (d .last .1 .1 .1 .1 .1 .0)) (c .report-of2 .ensures)
+    ∙ stopped (l .inv .6) (c .before .before .before .before .before .before .before .before .before .before .before .before .before .before .before .before .before .before .before .before .before .before .before .before .before .before .loop-test .taken) (sym (c .before .before .before .before .before .before .before .before .before .before .before .before .before .before .before .before .before .before .before .before .before .before .before .call .given .1) ∙ c .before .before .before .before .before .before .before .before .before .before .before .before .before .before .before .before .before .before .before .before .before .before .before .before .before .read-call .ensures) (l .q) refl
+    (λ q. stateOf (a .frame) q (now (a .ry)) (now (a .rcb)) (now (a .rcr)) (d .last .0) (d .last .1 .0) (d .last .1 .1 .0) (d .last .1 .1 .1 .0) (d .last .1 .1 .1 .1 .0))
+    (d .result) (d .last .1 .1 .1 .1 .1 .0) (d .ensures) (c .before .before .why .given .1)
 
 report-of-requires-3 : tie.Need-report-of-requires-3 Inv-loop μ-loop
 report-of-requires-3 c κs = tt
@@ -134,7 +170,11 @@ same-length-18 : tie.Need-same-length-18 Inv-loop μ-loop
 same-length-18 c = c .before .before .loop .inv .5
 
 returns-3 : tie.Need-returns-3 Inv-loop μ-loop
-returns-3 c = ap (λ (r : Report). record { report = r; state = stateOf (c .before .before .before .before .before .before .before .before .before .before .before .before .before .args .frame) (r .quantiser) (now (c .before .before .before .before .before .before .before .before .before .before .before .before .before .args .ry)) (now (c .before .before .before .before .before .before .before .before .before .before .before .before .before .args .rcb)) (now (c .before .before .before .before .before .before .before .before .before .before .before .before .before .args .rcr)) (c .before .before .loop .y) (c .before .before .loop .cb) (c .before .before .loop .cr) (c .before .before .loop .mv) (c .before .before .loop .marks); transcript = c .before .before .loop .transcript }) (c .report-of3 .ensures) ∙ end (c .before .before .loop .inv .6) (c .before .loop-test .left)
+returns-3 c =
+    let l = c .before .before .loop in
+    let a = c .before .before .before .before .before .before .before .before .before .before .before .before .before .args in
+    ap (λ (r : Report). leftOf r (stateOf (a .frame) (r .quantiser) (now (a .ry)) (now (a .rcb)) (now (a .rcr)) (l .y) (l .cb) (l .cr) (l .mv) (l .marks)) (l .transcript)) (c .report-of3 .ensures)
+    ∙ end (l .inv .6) (c .before .loop-test .left)
 
 pub run-calls-spec : {M : Type 1} → statement M
 run-calls-spec =
@@ -155,7 +195,7 @@ run-calls-spec =
     same-length-6
     returns
     decode-inter-mb-requires
-    enum-known-after
+    enum-known-report
     sub-consumed
     add-consumed
     add-accepted

@@ -12,7 +12,7 @@ use Rattle.desk.proofs.told.tell_macroblock.Statement.{statement}
 use Rattle.desk.proofs.told.tell_macroblock.Tie as tie
 
 returns : tie.Need-returns
-returns c = rw (c .before .before .before .before .before .answer .given .1) (refl, c .before .before .put-five .ensures)
+returns c = rw (c .before .before .before .before .before .before .before .answer .given .1) (refl, c .before .before .put-five .ensures)
 
 returns-2 : tie.Need-returns-2
 returns-2 c =

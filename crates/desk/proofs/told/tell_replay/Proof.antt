@@ -7,7 +7,7 @@ use Rattle.desk.proofs.told.tell_replay.Statement.{statement}
 use Rattle.desk.proofs.told.tell_replay.Tie as tie
 
 returns : tie.Need-returns
-returns c = rw (c .before .before .before .before .before .answer .given .1) (refl, c .before .before .put-two .ensures)
+returns c = rw (c .before .before .before .before .before .before .answer .given .1) (refl, c .before .before .put-two .ensures)
 
 returns-2 : tie.Need-returns-2
 returns-2 c = rw (c .before .before .before .before .before .before .answer2 .given .1) (back w64 (c .refused .ok) (c .refused .ensures), c .before .before .before .put-two2 .ensures)
