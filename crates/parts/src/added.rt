@@ -2,8 +2,8 @@
 ghost use mathlib.Core.Path.{_≡_};
 ghost use Prim.Native.Nat.{_+_, _*_, _≤_, _<_};
 ghost use lib.ListN.{length};
-use crate::record::signed_at;
-use crate::record::wide;
+use crate::bytes::signed_at;
+use crate::bytes::wide;
 use picture::rows::store_row;
 use quadrant::four::add_chroma_blocks;
 use quadrant::four::add_chroma_dc_blocks;

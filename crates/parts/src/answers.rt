@@ -1,10 +1,10 @@
 // An answer of a reader held against the expected one.
 ghost use Prim.Native.Nat.{_+_, _*_, _≤_, _<_};
 ghost use lib.ListN.{length};
-use crate::record::long_at;
-use crate::record::number_at;
-use crate::record::signed_at;
-use crate::record::wide;
+use crate::bytes::long_at;
+use crate::bytes::number_at;
+use crate::bytes::signed_at;
+use crate::bytes::wide;
 use refusal::Refusal;
 
 // The expected refusal, number and detail. No detail of a reader is negative.

@@ -1,7 +1,7 @@
 // The compensated blocks, kinds 17 and 18.
 use crate::Plane;
-use crate::record::signed_at;
-use crate::record::wide;
+use crate::bytes::signed_at;
+use crate::bytes::wide;
 use compensation::svq3_mc::BlockAnswer;
 use compensation::svq3_mc::motion_compensate_block;
 use compensation::svq3_mc::motion_compensate_chroma_block;

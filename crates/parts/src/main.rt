@@ -3,14 +3,14 @@
 mod added;
 mod answers;
 mod block;
+mod bytes;
 mod reading;
-mod record;
 
 ghost use Prim.Native.Nat.{_≤_, _<_};
 ghost use lib.ListN.{length};
-use crate::record::fill;
-use crate::record::number_at;
-use crate::record::wide;
+use crate::bytes::fill;
+use crate::bytes::number_at;
+use crate::bytes::wide;
 use libc::STDOUT_FILENO;
 
 // The plane of the blocks that follow: the first `size` samples of the buffer.
@@ -117,7 +117,7 @@ fn print_counts(bits: u64, samples: u64, differ: u64) {
 }
 
 fn main() {
-    let total = record::count();
+    let total = bytes::count();
     let mut buffer = [0u8; 480];
     let mut plane = Plane {
         width: 0,

@@ -32,10 +32,8 @@ fn main() -> io::Result<()> {
     let mut out = io::BufWriter::new(io::stdout().lock());
     match words.as_slice() {
         [] => answer_lines(&mut out)?,
-        ["vectors", name @ ("parts" | "macroblocks" | "runs")] => out.write_all(&record::bytes(&list(name)))?,
-        ["vectors", name @ ("parts" | "macroblocks" | "runs"), "text"] => {
-            out.write_all(record::lines(&list(name)).as_bytes())?;
-        }
+        ["vectors", name @ ("parts" | "films")] => out.write_all(&record::bytes(&list(name)))?,
+        ["vectors", name @ ("parts" | "films"), "text"] => out.write_all(record::lines(&list(name)).as_bytes())?,
         ["runs", count, seed] => {
             let count = text::number(count).map_err(io::Error::other)?;
             let seed = text::number(seed).map_err(io::Error::other)?;
@@ -47,7 +45,7 @@ fn main() -> io::Result<()> {
             out.write_all(printer::printed(&input).as_bytes())?;
         }
         _ => {
-            eprintln!("usage: reference [vectors parts|macroblocks|runs [text] | runs COUNT SEED | printer]");
+            eprintln!("usage: reference [vectors parts|films [text] | runs COUNT SEED | printer]");
             std::process::exit(2);
         }
     }
@@ -58,8 +56,7 @@ fn main() -> io::Result<()> {
 fn list(name: &str) -> Vec<Box<dyn record::Record>> {
     match name {
         "parts" => record::joined(reader_list::questions(), sample_list::questions()),
-        "macroblocks" => record::joined(macroblock_list::cases(), Vec::<run_case::Case>::new()),
-        _ => record::joined(run_case_list::cases(), Vec::<run_case::Case>::new()),
+        _ => record::joined(macroblock_list::cases(), run_case_list::cases()),
     }
 }
 
