@@ -13,7 +13,7 @@ rm -f "$out/reference" "$out/checked"
 "$here/build.sh" checked
 [ -x "$out/checked" ] || exit 0
 
-for list in readers samples macroblocks runs; do
+for list in parts films; do
     "$out/reference" vectors $list > "$out/$list.bin"
     # No question makes the Rust overflow.
     "$out/checked" vectors $list | cmp - "$out/$list.bin"

@@ -32,14 +32,8 @@ fn main() -> io::Result<()> {
     let mut out = io::BufWriter::new(io::stdout().lock());
     match words.as_slice() {
         [] => answer_lines(&mut out)?,
-        ["vectors", "readers"] => out.write_all(&record::bytes(&reader_list::questions()))?,
-        ["vectors", "readers", "text"] => out.write_all(record::lines(&reader_list::questions()).as_bytes())?,
-        ["vectors", "samples"] => out.write_all(&record::bytes(&sample_list::questions()))?,
-        ["vectors", "samples", "text"] => out.write_all(record::lines(&sample_list::questions()).as_bytes())?,
-        ["vectors", "macroblocks"] => out.write_all(&record::bytes(&macroblock_list::cases()))?,
-        ["vectors", "macroblocks", "text"] => out.write_all(record::lines(&macroblock_list::cases()).as_bytes())?,
-        ["vectors", "runs"] => out.write_all(&record::bytes(&run_case_list::cases()))?,
-        ["vectors", "runs", "text"] => out.write_all(record::lines(&run_case_list::cases()).as_bytes())?,
+        ["vectors", name @ ("parts" | "films")] => out.write_all(&record::bytes(&list(name)))?,
+        ["vectors", name @ ("parts" | "films"), "text"] => out.write_all(record::lines(&list(name)).as_bytes())?,
         ["runs", count, seed] => {
             let count = text::number(count).map_err(io::Error::other)?;
             let seed = text::number(seed).map_err(io::Error::other)?;
@@ -51,11 +45,19 @@ fn main() -> io::Result<()> {
             out.write_all(printer::printed(&input).as_bytes())?;
         }
         _ => {
-            eprintln!("usage: reference [vectors readers|samples|macroblocks|runs [text] | runs COUNT SEED | printer]");
+            eprintln!("usage: reference [vectors parts|films [text] | runs COUNT SEED | printer]");
             std::process::exit(2);
         }
     }
     out.flush()
+}
+
+/// The fixed list of that name.
+fn list(name: &str) -> Vec<Box<dyn record::Record>> {
+    match name {
+        "parts" => record::joined(reader_list::questions(), sample_list::questions()),
+        _ => record::joined(macroblock_list::cases(), run_case_list::cases()),
+    }
 }
 
 /// Answers each line as soon as it is read, so that a program may ask and wait.

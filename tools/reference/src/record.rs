@@ -12,14 +12,22 @@ pub trait Record {
     fn bytes(&self) -> Vec<u8>;
 }
 
+/// One list behind the other.
+pub fn joined(first: Vec<impl Record + 'static>, second: Vec<impl Record + 'static>) -> Vec<Box<dyn Record>> {
+    let mut all: Vec<Box<dyn Record>> = Vec::new();
+    all.extend(first.into_iter().map(|record| Box::new(record) as Box<dyn Record>));
+    all.extend(second.into_iter().map(|record| Box::new(record) as Box<dyn Record>));
+    all
+}
+
 /// A first record of kind 0 that holds the number of the others, then the others.
-pub fn bytes(questions: &[impl Record]) -> Vec<u8> {
+pub fn bytes(questions: &[Box<dyn Record>]) -> Vec<u8> {
     let mut out = vec![0; HEAD];
     out[8..16].copy_from_slice(&(questions.len() as u64).to_le_bytes());
     out.extend(questions.iter().flat_map(|question| question.bytes()));
     out
 }
 
-pub fn lines(questions: &[impl Record]) -> String {
+pub fn lines(questions: &[Box<dyn Record>]) -> String {
     questions.iter().map(|question| format!("{} -> {}\n", question.line(), question.answer())).collect()
 }

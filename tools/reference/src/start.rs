@@ -6,7 +6,7 @@ use crate::run::{Left, Run};
 use crate::run_list::component;
 use published::svq3_picture::Svq3Picture;
 
-/// Every record of the lists of macroblocks and of runs starts with this many bytes.
+/// Every record of macroblocks, runs and starts begins with this many bytes.
 pub const HEAD: usize = 80;
 
 #[derive(Clone)]
