@@ -264,11 +264,12 @@ module _ {width height w h size : ℕ} (t : Taps) (full : Whole width height siz
   pub taps-start : (line * width ≤ 4294967296) × (line ≤ 65536) × (column ≤ 65536)
   taps-start = (line-small {line = line} full (omega (arith, taps-line .1)), omega (arith, taps-line .1), omega (arith, taps-column .1))
 
-  pub taps-room : (plane : List ℕ) → Whole width height (length plane) → line * width + column + (h - 1 + more-taps) * width + w + more-taps ≤ length plane
-  taps-room plane whole = inside-room plane width height column line w h more-taps whole (s .down .0) (taps-line .1) (taps-column .1)
+  -- the rows of the source are `by` samples long: the width
+  pub taps-room : (plane : List ℕ) → Whole width height (length plane) → {by : ℕ} → by ≡ width → line * width + column + (h - 1 + more-taps) * by + w + more-taps ≤ length plane
+  taps-room plane whole is = rw is (inside-room plane width height column line w h more-taps whole (s .down .0) (taps-line .1) (taps-column .1))
 
-  pub taps-block : (plane : List ℕ) (stride dx dy : ℕ) (l : List ℕ)
-      → painted stride dx dy w h (fourBlock (formula (t .px) (t .py)) plane width (line * width + column)) l ≡ painted stride dx dy w h (windowBlock (formula (t .px) (t .py)) plane width height (originOf width (t .ox)) (originOf height (t .oy))) l
-  taps-block plane stride dx dy l =
+  pub taps-block : (plane : List ℕ) {by : ℕ} → by ≡ width → (stride dx dy : ℕ) (l : List ℕ)
+      → painted stride dx dy w h (fourBlock (formula (t .px) (t .py)) plane by (line * width + column)) l ≡ painted stride dx dy w h (windowBlock (formula (t .px) (t .py)) plane width height (originOf width (t .ox)) (originOf height (t .oy))) l
+  taps-block plane is stride dx dy l =
       painted-values stride dx dy w h _ _ l
-      (λ r c lr lc. rw (taps-column .2, taps-line .2) (inside-sample plane width height column line (t .px) (t .py) r c w h (taps-line .1) (taps-column .1) lr lc))
+      (λ r c lr lc. rw (is, taps-column .2, taps-line .2) (inside-sample plane width height column line (t .px) (t .py) r c w h (taps-line .1) (taps-column .1) lr lc))

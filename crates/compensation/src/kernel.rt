@@ -3,11 +3,12 @@ ghost use mathlib.Core.Path.{_≡_};
 ghost use Prim.Native.Nat.{_+_, _*_, _-_, _<_, _≤_};
 ghost use lib.ListN.{length, getD};
 ghost use Rattle.ints.specs.Z.{if_then_else_};
-ghost use Rattle.picture.specs.Painted.{Inside, painted};
+ghost use Rattle.picture.specs.Block.{BlockIn, blockPainted};
 ghost use Rattle.picture.specs.Rows.{row};
 ghost use Rattle.compensation.specs.Formula.{formula};
 ghost use Rattle.compensation.specs.Kernel.{weighed, raised, mixedTaps, mixedRow, mixedBlock, SumsTo12, FromSquare, MixFor, way, mixes, mixCode, fourBlock, extra};
 ghost use Rattle.compensation.specs.Block.{Span};
+use picture::Block;
 use picture::rows::store_row;
 
 // How a sample is mixed, whatever the phases: four taps weighed by weights of the sum 12.
@@ -72,27 +73,16 @@ fn mix_row(dst: &mut [u8], src: &[u8], to: usize, from: usize, n: usize, mix: Mi
     }
 }
 
-// The w × h block whose taps start at `from` of `src`, into `dst` at column dx of row dy.
-pub fn mix_block(
-    dst: &mut [u8],
-    src: &[u8],
-    dstride: usize,
-    dx: usize,
-    dy: usize,
-    w: usize,
-    h: usize,
-    stride: usize,
-    from: usize,
-    mix: Mix,
-)
+// The block whose taps start at `from` of `src`.
+pub fn mix_block(dst: &mut [u8], src: &[u8], b: Block, stride: usize, from: usize, mix: Mix)
     requires { ⌜ FromSquare stride mix ⌝ }
-    requires { ⌜ Inside dstride dx dy w h (length (now dst)) ⌝ }
-    requires { ⌜ from + h * stride + w < length (now src) ⌝ }
-    ensures { λ _. ⌜ now (dst .exit) ≡ painted dstride dx dy w h (mixedBlock mix (now (src .entry)) stride from) (now (dst .entry)) ⌝ }
+    requires { ⌜ BlockIn b (length (now dst)) × (from + b .h * stride + b .w < length (now src)) ⌝ }
+    ensures { λ _. ⌜ now (dst .exit) ≡ blockPainted b (mixedBlock mix (now (src .entry)) stride from) (now (dst .entry)) ⌝ }
 {
     let mut r = 0;
-    while r < h {
-        mix_row(dst, src, (dy + r) * dstride + dx, from + r * stride, w, mix);
+    while r < b.h {
+        let to = (b.y + r) * b.stride + b.x;
+        mix_row(dst, src, to, from + r * stride, b.w, mix);
         r += 1;
     }
 }
@@ -166,52 +156,34 @@ pub fn extra_of(px: u32, py: u32) -> usize
     1
 }
 
-// Whole samples: rows that are copied.
-fn copy_rows(
-    dst: &mut [u8],
-    src: &[u8],
-    dstride: usize,
-    dx: usize,
-    dy: usize,
-    w: usize,
-    h: usize,
-    stride: usize,
-    from: usize,
-)
-    requires { ⌜ Span w h × Inside dstride dx dy w h (length (now dst)) × (from + (h - 1) * stride + w ≤ length (now src)) ⌝ }
-    ensures { λ _. ⌜ now (dst .exit) ≡ painted dstride dx dy w h (fourBlock (formula 0 0) (now (src .entry)) stride from) (now (dst .entry)) ⌝ }
+// Whole samples: rows that are copied, of a width w that the compiler may know.
+fn copy_rows(dst: &mut [u8], src: &[u8], b: Block, w: usize, stride: usize, from: usize)
+    requires { ⌜ w ≡ b .w ⌝ }
+    requires { ⌜ Span (b .w) (b .h) × BlockIn b (length (now dst)) × (from + (b .h - 1) * stride + b .w ≤ length (now src)) ⌝ }
+    ensures { λ _. ⌜ now (dst .exit) ≡ blockPainted b (fourBlock (formula 0 0) (now (src .entry)) stride from) (now (dst .entry)) ⌝ }
 {
     let mut r = 0;
-    while r < h {
-        store_row(dst, (dy + r) * dstride + dx, src, from + r * stride, w);
+    while r < b.h {
+        let to = (b.y + r) * b.stride + b.x;
+        store_row(dst, to, src, from + r * stride, w);
         r += 1;
     }
 }
 
 // The same, with the widths of partitions known to the compiler.
-pub fn copy_by_width(
-    dst: &mut [u8],
-    src: &[u8],
-    dstride: usize,
-    dx: usize,
-    dy: usize,
-    w: usize,
-    h: usize,
-    stride: usize,
-    from: usize,
-)
-    requires { ⌜ Span w h × Inside dstride dx dy w h (length (now dst)) × (from + (h - 1) * stride + w ≤ length (now src)) ⌝ }
-    ensures { λ _. ⌜ now (dst .exit) ≡ painted dstride dx dy w h (fourBlock (formula 0 0) (now (src .entry)) stride from) (now (dst .entry)) ⌝ }
+pub fn copy_by_width(dst: &mut [u8], src: &[u8], b: Block, stride: usize, from: usize)
+    requires { ⌜ Span (b .w) (b .h) × BlockIn b (length (now dst)) × (from + (b .h - 1) * stride + b .w ≤ length (now src)) ⌝ }
+    ensures { λ _. ⌜ now (dst .exit) ≡ blockPainted b (fourBlock (formula 0 0) (now (src .entry)) stride from) (now (dst .entry)) ⌝ }
 {
-    if w == 16 {
-        copy_rows(dst, src, dstride, dx, dy, 16, h, stride, from);
-    } else if w == 8 {
-        copy_rows(dst, src, dstride, dx, dy, 8, h, stride, from);
-    } else if w == 4 {
-        copy_rows(dst, src, dstride, dx, dy, 4, h, stride, from);
-    } else if w == 2 {
-        copy_rows(dst, src, dstride, dx, dy, 2, h, stride, from);
+    if b.w == 16 {
+        copy_rows(dst, src, b, 16, stride, from);
+    } else if b.w == 8 {
+        copy_rows(dst, src, b, 8, stride, from);
+    } else if b.w == 4 {
+        copy_rows(dst, src, b, 4, stride, from);
+    } else if b.w == 2 {
+        copy_rows(dst, src, b, 2, stride, from);
     } else {
-        copy_rows(dst, src, dstride, dx, dy, w, h, stride, from);
+        copy_rows(dst, src, b, b.w, stride, from);
     }
 }

@@ -3,11 +3,9 @@ ghost use mathlib.Core.Path.{_≡_};
 ghost use Prim.Native.Nat.{_+_, _/_, _<_, _≤_};
 ghost use lib.ListN.{length};
 ghost use Rattle.ints.specs.Z.{floorZ, modZ};
-ghost use Rattle.picture.specs.Painted.{Inside, painted};
-ghost use Rattle.compensation.specs.Formula.{formula};
+ghost use Rattle.picture.specs.Block.{BlockIn, blockPainted};
 ghost use Rattle.compensation.specs.Sample.{blockSample};
-ghost use Rattle.compensation.specs.Kernel.{originOf, windowBlock};
-ghost use Rattle.compensation.specs.Taps.{Placed, TapsIn, liesIn};
+ghost use Rattle.compensation.specs.Taps.{Placed, TapsIn, liesIn, tapped};
 ghost use Rattle.compensation.specs.Block.{Whole, Span, blockAnswer, blockOut, halved};
 use crate::kernel::extra_of;
 use crate::tiles::interpolate;
@@ -15,6 +13,8 @@ use crate::tiles::interpolate_pair;
 use crate::window::gather;
 use crate::window::origin;
 use ints::half_toward_zero;
+use picture::Block;
+use picture::Size;
 use questions::sides_fit;
 use refusal::Refusal;
 
@@ -35,33 +35,6 @@ pub fn split_mv_component(v: i32) -> MvComponentSplit
     }
 }
 
-// A block some of whose taps lie past an edge.
-fn across_edge(
-    dst: &mut [u8],
-    plane: &[u8],
-    dstride: usize,
-    dx: usize,
-    dy: usize,
-    w: usize,
-    h: usize,
-    width: usize,
-    height: usize,
-    ox: i64,
-    oy: i64,
-    px: u32,
-    py: u32,
-)
-    requires { ⌜ Span w h × Inside dstride dx dy w h (length (now dst)) × (px < 6) × (py < 6) ⌝ }
-    requires { ⌜ Whole width height (length (now plane)) ⌝ }
-    ensures { λ _. ⌜ now (dst .exit) ≡ painted dstride dx dy w h (windowBlock (formula px py) (now (plane .entry)) width height (originOf width ox) (originOf height oy)) (now (dst .entry)) ⌝ }
-{
-    let bx = origin(ox, width);
-    let by = origin(oy, height);
-    let mut window = [0u8; 578];
-    let from = gather(&mut window, plane, width, height, bx, by, h + 1);
-    interpolate(dst, &window, dstride, dx, dy, w, h, 34, from, px, py);
-}
-
 // How a block reads its taps: the phases, where its first tap lies, and whether all lie inside the plane.
 pub struct Taps {
     pub px: u32,
@@ -80,19 +53,10 @@ fn lies_in(first: i64, n: usize, side: usize) -> bool
 }
 
 // The taps of the w × h block at (x, y) of a plane with the vector (vx, vy).
-pub fn taps_of(
-    w: usize,
-    h: usize,
-    width: usize,
-    height: usize,
-    x: i32,
-    y: i32,
-    vx: i32,
-    vy: i32,
-) -> Taps
-    requires { ⌜ Span w h × (0 < width) × (width ≤ 65536) × (0 < height) × (height ≤ 65536) ⌝ }
+pub fn taps_of(w: usize, h: usize, size: Size, x: i32, y: i32, vx: i32, vy: i32) -> Taps
+    requires { ⌜ Span w h × (0 < size .width) × (size .width ≤ 65536) × (0 < size .height) × (size .height ≤ 65536) ⌝ }
     ensures { λ r. ⌜ Placed x y vx vy (r .ox) (r .oy) (r .px) (r .py) ⌝ }
-    ensures { λ r. ⌜ TapsIn width height w h r ⌝ }
+    ensures { λ r. ⌜ TapsIn (size .width) (size .height) w h r ⌝ }
 {
     let sx = split_mv_component(vx);
     let sy = split_mv_component(vy);
@@ -101,7 +65,7 @@ pub fn taps_of(
     let ox = (x as i64) + sx.whole;
     let oy = (y as i64) + sy.whole;
     let e = extra_of(px, py);
-    let inside = lies_in(ox, w + e, width) & lies_in(oy, h + e, height);
+    let inside = lies_in(ox, w + e, size.width) & lies_in(oy, h + e, size.height);
     Taps {
         px,
         py,
@@ -111,45 +75,29 @@ pub fn taps_of(
     }
 }
 
-// A block by its taps, into `dst` at column dx of row dy.
-pub fn compensate_taps(
-    dst: &mut [u8],
-    plane: &[u8],
-    dstride: usize,
-    dx: usize,
-    dy: usize,
-    w: usize,
-    h: usize,
-    width: usize,
-    height: usize,
-    t: Taps,
-)
-    requires { ⌜ Span w h × Inside dstride dx dy w h (length (now dst)) × Whole width height (length (now plane)) × TapsIn width height w h t ⌝ }
-    ensures { λ _. ⌜ now (dst .exit) ≡ painted dstride dx dy w h (windowBlock (formula (t .px) (t .py)) (now (plane .entry)) width height (originOf width (t .ox)) (originOf height (t .oy))) (now (dst .entry)) ⌝ }
+// A block some of whose taps lie past an edge.
+fn across_edge(dst: &mut [u8], plane: &[u8], b: Block, size: Size, t: Taps)
+    requires { ⌜ Span (b .w) (b .h) × BlockIn b (length (now dst)) × (t .px < 6) × (t .py < 6) ⌝ }
+    requires { ⌜ Whole (size .width) (size .height) (length (now plane)) ⌝ }
+    ensures { λ _. ⌜ now (dst .exit) ≡ blockPainted b (tapped size t (now (plane .entry))) (now (dst .entry)) ⌝ }
 {
-    let px = t.px;
-    let py = t.py;
-    let ox = t.ox;
-    let oy = t.oy;
+    let bx = origin(t.ox, size.width);
+    let by = origin(t.oy, size.height);
+    let mut window = [0u8; 578];
+    let from = gather(&mut window, plane, size, bx, by, b.h + 1);
+    interpolate(dst, &window, b, 34, from, t.px, t.py);
+}
+
+// A block by its taps.
+pub fn compensate_taps(dst: &mut [u8], plane: &[u8], b: Block, size: Size, t: Taps)
+    requires { ⌜ Span (b .w) (b .h) × BlockIn b (length (now dst)) × Whole (size .width) (size .height) (length (now plane)) × TapsIn (size .width) (size .height) (b .w) (b .h) t ⌝ }
+    ensures { λ _. ⌜ now (dst .exit) ≡ blockPainted b (tapped size t (now (plane .entry))) (now (dst .entry)) ⌝ }
+{
     if t.inside {
-        let from = (oy as usize) * width + (ox as usize);
-        interpolate(dst, plane, dstride, dx, dy, w, h, width, from, px, py);
+        let from = (t.oy as usize) * size.width + (t.ox as usize);
+        interpolate(dst, plane, b, size.width, from, t.px, t.py);
     } else {
-        across_edge(
-            dst,
-            plane,
-            dstride,
-            dx,
-            dy,
-            w,
-            h,
-            width,
-            height,
-            ox,
-            oy,
-            px,
-            py,
-        );
+        across_edge(dst, plane, b, size, t);
     }
 }
 
@@ -159,53 +107,40 @@ pub fn compensate_both(
     cr: &mut [u8],
     rcb: &[u8],
     rcr: &[u8],
-    dx: usize,
-    dy: usize,
-    w: usize,
-    h: usize,
-    width: usize,
-    height: usize,
+    b: Block,
+    size: Size,
     t: Taps,
 )
-    requires { ⌜ Span w h × Inside width dx dy w h (length (now cb)) × Inside width dx dy w h (length (now cr)) ⌝ }
-    requires { ⌜ Whole width height (length (now rcb)) × Whole width height (length (now rcr)) × TapsIn width height w h t ⌝ }
-    ensures { λ _. ⌜ now (cb .exit) ≡ painted width dx dy w h (windowBlock (formula (t .px) (t .py)) (now (rcb .entry)) width height (originOf width (t .ox)) (originOf height (t .oy))) (now (cb .entry)) ⌝ }
-    ensures { λ _. ⌜ now (cr .exit) ≡ painted width dx dy w h (windowBlock (formula (t .px) (t .py)) (now (rcr .entry)) width height (originOf width (t .ox)) (originOf height (t .oy))) (now (cr .entry)) ⌝ }
+    requires { ⌜ Span (b .w) (b .h) × BlockIn b (length (now cb)) × BlockIn b (length (now cr)) × (b .stride ≡ size .width) ⌝ }
+    requires { ⌜ Whole (size .width) (size .height) (length (now rcb)) × Whole (size .width) (size .height) (length (now rcr)) × TapsIn (size .width) (size .height) (b .w) (b .h) t ⌝ }
+    ensures { λ _. ⌜ now (cb .exit) ≡ blockPainted b (tapped size t (now (rcb .entry))) (now (cb .entry)) ⌝ }
+    ensures { λ _. ⌜ now (cr .exit) ≡ blockPainted b (tapped size t (now (rcr .entry))) (now (cr .entry)) ⌝ }
 {
-    let px = t.px;
-    let py = t.py;
-    let ox = t.ox;
-    let oy = t.oy;
     if t.inside {
-        let from = (oy as usize) * width + (ox as usize);
-        interpolate_pair(cb, cr, rcb, rcr, width, dx, dy, w, h, from, px, py);
+        let from = (t.oy as usize) * size.width + (t.ox as usize);
+        interpolate_pair(cb, cr, rcb, rcr, b, from, t.px, t.py);
     } else {
-        across_edge(cb, rcb, width, dx, dy, w, h, width, height, ox, oy, px, py);
-        across_edge(cr, rcr, width, dx, dy, w, h, width, height, ox, oy, px, py);
+        across_edge(cb, rcb, b, size, t);
+        across_edge(cr, rcr, b, size, t);
     }
 }
 
-// The w × h block at (x, y) of `plane` with the vector (vx, vy), into `dst` at column dx of row dy.
+// The block at (x, y) of `plane` with the vector (vx, vy), into the block b of `dst`.
 pub fn compensate_into(
     dst: &mut [u8],
     plane: &[u8],
-    dstride: usize,
-    dx: usize,
-    dy: usize,
-    w: usize,
-    h: usize,
-    width: usize,
-    height: usize,
+    b: Block,
+    size: Size,
     x: i32,
     y: i32,
     vx: i32,
     vy: i32,
 )
-    requires { ⌜ Span w h × Inside dstride dx dy w h (length (now dst)) × Whole width height (length (now plane)) ⌝ }
-    ensures { λ _. ⌜ now (dst .exit) ≡ painted dstride dx dy w h (blockSample (now (plane .entry)) width height x y vx vy) (now (dst .entry)) ⌝ }
+    requires { ⌜ Span (b .w) (b .h) × BlockIn b (length (now dst)) × Whole (size .width) (size .height) (length (now plane)) ⌝ }
+    ensures { λ _. ⌜ now (dst .exit) ≡ blockPainted b (blockSample (now (plane .entry)) (size .width) (size .height) x y vx vy) (now (dst .entry)) ⌝ }
 {
-    let t = taps_of(w, h, width, height, x, y, vx, vy);
-    compensate_taps(dst, plane, dstride, dx, dy, w, h, width, height, t);
+    let t = taps_of(b.w, b.h, size, x, y, vx, vy);
+    compensate_taps(dst, plane, b, size, t);
 }
 
 pub enum BlockAnswer {
@@ -232,7 +167,15 @@ pub fn motion_compensate_block(
 {
     if sides_fit(65536, width, height, plane.len()) {
         if sides_fit(16, w, h, out.len()) {
-            compensate_into(out, plane, w, 0, 0, w, h, width, height, x, y, vx, vy);
+            let whole = Block {
+                stride: w,
+                x: 0,
+                y: 0,
+                w,
+                h,
+            };
+            let size = Size { width, height };
+            compensate_into(out, plane, whole, size, x, y, vx, vy);
             return BlockAnswer::Done;
         }
         return BlockAnswer::Refused(Refusal::CallRange);

@@ -5,6 +5,7 @@ ghost use mathlib.Core.Path.{_≡_};
 ghost use Prim.Native.Nat.{_+_, _*_, _-_, _%_, _<_, _≤_};
 ghost use lib.ListN.{length, replicate};
 ghost use Rattle.picture.specs.Painted.{Inside, painted};
+ghost use Rattle.picture.specs.Block.{BlockIn, blockPainted};
 ghost use Rattle.picture.specs.Rows.{row};
 ghost use Rattle.compensation.specs.Formula.{formula};
 ghost use Rattle.compensation.specs.Kernel.{SumsTo12, FromSquare, mixedBlock, fourBlock, extra};
@@ -16,6 +17,7 @@ use crate::kernel::extra_of;
 use crate::kernel::mix_block;
 use crate::kernel::mix_of;
 use crate::kernel::mix_taps;
+use picture::Block;
 
 // w × h samples of `src`, row after row, into the lanes from `at` on.
 fn load_lanes(
@@ -110,26 +112,15 @@ fn tile_16x1(src: &[u8], from: usize, stride: usize, mix: Mix) -> [u8; 16]
     mix_lanes(first, beside, second, last, mix)
 }
 
-fn mix_16x1(
-    dst: &mut [u8],
-    src: &[u8],
-    dstride: usize,
-    dx: usize,
-    dy: usize,
-    h: usize,
-    stride: usize,
-    from: usize,
-    mix: Mix,
-)
-    requires { ⌜ FromSquare stride mix ⌝ }
-    requires { ⌜ Inside dstride dx dy 16 h (length (now dst)) ⌝ }
-    requires { ⌜ from + h * stride + 16 < length (now src) ⌝ }
-    ensures { λ _. ⌜ now (dst .exit) ≡ painted dstride dx dy 16 h (mixedBlock mix (now (src .entry)) stride from) (now (dst .entry)) ⌝ }
+fn mix_16x1(dst: &mut [u8], src: &[u8], b: Block, stride: usize, from: usize, mix: Mix)
+    requires { ⌜ FromSquare stride mix × (b .w ≡ 16) ⌝ }
+    requires { ⌜ BlockIn b (length (now dst)) × (from + b .h * stride + b .w < length (now src)) ⌝ }
+    ensures { λ _. ⌜ now (dst .exit) ≡ blockPainted b (mixedBlock mix (now (src .entry)) stride from) (now (dst .entry)) ⌝ }
 {
     let mut r = 0;
-    while r < h {
+    while r < b.h {
         let t = tile_16x1(src, from + r * stride, stride, mix);
-        store_lanes(dst, dstride, dx, dy + r, 16, 1, t, 0);
+        store_lanes(dst, b.stride, b.x, b.y + r, 16, 1, t, 0);
         r += 1;
     }
 }
@@ -145,26 +136,15 @@ fn tile_8x2(src: &[u8], from: usize, stride: usize, mix: Mix) -> [u8; 16]
     mix_lanes(first, beside, second, last, mix)
 }
 
-fn mix_8x2(
-    dst: &mut [u8],
-    src: &[u8],
-    dstride: usize,
-    dx: usize,
-    dy: usize,
-    h: usize,
-    stride: usize,
-    from: usize,
-    mix: Mix,
-)
-    requires { ⌜ FromSquare stride mix × (h % 2 ≡ 0) ⌝ }
-    requires { ⌜ Inside dstride dx dy 8 h (length (now dst)) ⌝ }
-    requires { ⌜ from + h * stride + 8 < length (now src) ⌝ }
-    ensures { λ _. ⌜ now (dst .exit) ≡ painted dstride dx dy 8 h (mixedBlock mix (now (src .entry)) stride from) (now (dst .entry)) ⌝ }
+fn mix_8x2(dst: &mut [u8], src: &[u8], b: Block, stride: usize, from: usize, mix: Mix)
+    requires { ⌜ FromSquare stride mix × (b .w ≡ 8) × (b .h % 2 ≡ 0) ⌝ }
+    requires { ⌜ BlockIn b (length (now dst)) × (from + b .h * stride + b .w < length (now src)) ⌝ }
+    ensures { λ _. ⌜ now (dst .exit) ≡ blockPainted b (mixedBlock mix (now (src .entry)) stride from) (now (dst .entry)) ⌝ }
 {
     let mut r = 0;
-    while r < h {
+    while r < b.h {
         let t = tile_8x2(src, from + r * stride, stride, mix);
-        store_lanes(dst, dstride, dx, dy + r, 8, 2, t, 0);
+        store_lanes(dst, b.stride, b.x, b.y + r, 8, 2, t, 0);
         r += 2;
     }
 }
@@ -180,26 +160,15 @@ fn tile_4x4(src: &[u8], from: usize, stride: usize, mix: Mix) -> [u8; 16]
     mix_lanes(first, beside, second, last, mix)
 }
 
-fn mix_4x4(
-    dst: &mut [u8],
-    src: &[u8],
-    dstride: usize,
-    dx: usize,
-    dy: usize,
-    h: usize,
-    stride: usize,
-    from: usize,
-    mix: Mix,
-)
-    requires { ⌜ FromSquare stride mix × (h % 4 ≡ 0) ⌝ }
-    requires { ⌜ Inside dstride dx dy 4 h (length (now dst)) ⌝ }
-    requires { ⌜ from + h * stride + 4 < length (now src) ⌝ }
-    ensures { λ _. ⌜ now (dst .exit) ≡ painted dstride dx dy 4 h (mixedBlock mix (now (src .entry)) stride from) (now (dst .entry)) ⌝ }
+fn mix_4x4(dst: &mut [u8], src: &[u8], b: Block, stride: usize, from: usize, mix: Mix)
+    requires { ⌜ FromSquare stride mix × (b .w ≡ 4) × (b .h % 4 ≡ 0) ⌝ }
+    requires { ⌜ BlockIn b (length (now dst)) × (from + b .h * stride + b .w < length (now src)) ⌝ }
+    ensures { λ _. ⌜ now (dst .exit) ≡ blockPainted b (mixedBlock mix (now (src .entry)) stride from) (now (dst .entry)) ⌝ }
 {
     let mut r = 0;
-    while r < h {
+    while r < b.h {
         let t = tile_4x4(src, from + r * stride, stride, mix);
-        store_lanes(dst, dstride, dx, dy + r, 4, 4, t, 0);
+        store_lanes(dst, b.stride, b.x, b.y + r, 4, 4, t, 0);
         r += 4;
     }
 }
@@ -215,29 +184,18 @@ fn both_8x1(rcb: &[u8], rcr: &[u8], from: usize, stride: usize, mix: Mix) -> [u8
     mix_lanes(first, beside, second, last, mix)
 }
 
-fn pair_8x1(
-    cb: &mut [u8],
-    cr: &mut [u8],
-    rcb: &[u8],
-    rcr: &[u8],
-    stride: usize,
-    dx: usize,
-    dy: usize,
-    h: usize,
-    from: usize,
-    mix: Mix,
-)
-    requires { ⌜ FromSquare stride mix ⌝ }
-    requires { ⌜ Inside stride dx dy 8 h (length (now cb)) × Inside stride dx dy 8 h (length (now cr)) ⌝ }
-    requires { ⌜ (from + h * stride + 8 < length (now rcb)) × (from + h * stride + 8 < length (now rcr)) ⌝ }
-    ensures { λ _. ⌜ now (cb .exit) ≡ painted stride dx dy 8 h (mixedBlock mix (now (rcb .entry)) stride from) (now (cb .entry)) ⌝ }
-    ensures { λ _. ⌜ now (cr .exit) ≡ painted stride dx dy 8 h (mixedBlock mix (now (rcr .entry)) stride from) (now (cr .entry)) ⌝ }
+fn pair_8x1(cb: &mut [u8], cr: &mut [u8], rcb: &[u8], rcr: &[u8], b: Block, from: usize, mix: Mix)
+    requires { ⌜ FromSquare (b .stride) mix × (b .w ≡ 8) ⌝ }
+    requires { ⌜ BlockIn b (length (now cb)) × BlockIn b (length (now cr)) ⌝ }
+    requires { ⌜ (from + b .h * b .stride + b .w < length (now rcb)) × (from + b .h * b .stride + b .w < length (now rcr)) ⌝ }
+    ensures { λ _. ⌜ now (cb .exit) ≡ blockPainted b (mixedBlock mix (now (rcb .entry)) (b .stride) from) (now (cb .entry)) ⌝ }
+    ensures { λ _. ⌜ now (cr .exit) ≡ blockPainted b (mixedBlock mix (now (rcr .entry)) (b .stride) from) (now (cr .entry)) ⌝ }
 {
     let mut r = 0;
-    while r < h {
-        let t = both_8x1(rcb, rcr, from + r * stride, stride, mix);
-        store_lanes(cb, stride, dx, dy + r, 8, 1, t, 0);
-        store_lanes(cr, stride, dx, dy + r, 8, 1, t, 8);
+    while r < b.h {
+        let t = both_8x1(rcb, rcr, from + r * b.stride, b.stride, mix);
+        store_lanes(cb, b.stride, b.x, b.y + r, 8, 1, t, 0);
+        store_lanes(cr, b.stride, b.x, b.y + r, 8, 1, t, 8);
         r += 1;
     }
 }
@@ -253,29 +211,18 @@ fn both_4x2(rcb: &[u8], rcr: &[u8], from: usize, stride: usize, mix: Mix) -> [u8
     mix_lanes(first, beside, second, last, mix)
 }
 
-fn pair_4x2(
-    cb: &mut [u8],
-    cr: &mut [u8],
-    rcb: &[u8],
-    rcr: &[u8],
-    stride: usize,
-    dx: usize,
-    dy: usize,
-    h: usize,
-    from: usize,
-    mix: Mix,
-)
-    requires { ⌜ FromSquare stride mix × (h % 2 ≡ 0) ⌝ }
-    requires { ⌜ Inside stride dx dy 4 h (length (now cb)) × Inside stride dx dy 4 h (length (now cr)) ⌝ }
-    requires { ⌜ (from + h * stride + 4 < length (now rcb)) × (from + h * stride + 4 < length (now rcr)) ⌝ }
-    ensures { λ _. ⌜ now (cb .exit) ≡ painted stride dx dy 4 h (mixedBlock mix (now (rcb .entry)) stride from) (now (cb .entry)) ⌝ }
-    ensures { λ _. ⌜ now (cr .exit) ≡ painted stride dx dy 4 h (mixedBlock mix (now (rcr .entry)) stride from) (now (cr .entry)) ⌝ }
+fn pair_4x2(cb: &mut [u8], cr: &mut [u8], rcb: &[u8], rcr: &[u8], b: Block, from: usize, mix: Mix)
+    requires { ⌜ FromSquare (b .stride) mix × (b .w ≡ 4) × (b .h % 2 ≡ 0) ⌝ }
+    requires { ⌜ BlockIn b (length (now cb)) × BlockIn b (length (now cr)) ⌝ }
+    requires { ⌜ (from + b .h * b .stride + b .w < length (now rcb)) × (from + b .h * b .stride + b .w < length (now rcr)) ⌝ }
+    ensures { λ _. ⌜ now (cb .exit) ≡ blockPainted b (mixedBlock mix (now (rcb .entry)) (b .stride) from) (now (cb .entry)) ⌝ }
+    ensures { λ _. ⌜ now (cr .exit) ≡ blockPainted b (mixedBlock mix (now (rcr .entry)) (b .stride) from) (now (cr .entry)) ⌝ }
 {
     let mut r = 0;
-    while r < h {
-        let t = both_4x2(rcb, rcr, from + r * stride, stride, mix);
-        store_lanes(cb, stride, dx, dy + r, 4, 2, t, 0);
-        store_lanes(cr, stride, dx, dy + r, 4, 2, t, 8);
+    while r < b.h {
+        let t = both_4x2(rcb, rcr, from + r * b.stride, b.stride, mix);
+        store_lanes(cb, b.stride, b.x, b.y + r, 4, 2, t, 0);
+        store_lanes(cr, b.stride, b.x, b.y + r, 4, 2, t, 8);
         r += 2;
     }
 }
@@ -291,26 +238,16 @@ fn both_2x2(rcb: &[u8], rcr: &[u8], from: usize, stride: usize, mix: Mix) -> [u8
     mix_lanes(first, beside, second, last, mix)
 }
 
-fn pair_2x2(
-    cb: &mut [u8],
-    cr: &mut [u8],
-    rcb: &[u8],
-    rcr: &[u8],
-    stride: usize,
-    dx: usize,
-    dy: usize,
-    from: usize,
-    mix: Mix,
-)
-    requires { ⌜ FromSquare stride mix ⌝ }
-    requires { ⌜ Inside stride dx dy 2 2 (length (now cb)) × Inside stride dx dy 2 2 (length (now cr)) ⌝ }
-    requires { ⌜ (from + 2 * stride + 2 < length (now rcb)) × (from + 2 * stride + 2 < length (now rcr)) ⌝ }
-    ensures { λ _. ⌜ now (cb .exit) ≡ painted stride dx dy 2 2 (mixedBlock mix (now (rcb .entry)) stride from) (now (cb .entry)) ⌝ }
-    ensures { λ _. ⌜ now (cr .exit) ≡ painted stride dx dy 2 2 (mixedBlock mix (now (rcr .entry)) stride from) (now (cr .entry)) ⌝ }
+fn pair_2x2(cb: &mut [u8], cr: &mut [u8], rcb: &[u8], rcr: &[u8], b: Block, from: usize, mix: Mix)
+    requires { ⌜ FromSquare (b .stride) mix × (b .w ≡ 2) × (b .h ≡ 2) ⌝ }
+    requires { ⌜ BlockIn b (length (now cb)) × BlockIn b (length (now cr)) ⌝ }
+    requires { ⌜ (from + b .h * b .stride + b .w < length (now rcb)) × (from + b .h * b .stride + b .w < length (now rcr)) ⌝ }
+    ensures { λ _. ⌜ now (cb .exit) ≡ blockPainted b (mixedBlock mix (now (rcb .entry)) (b .stride) from) (now (cb .entry)) ⌝ }
+    ensures { λ _. ⌜ now (cr .exit) ≡ blockPainted b (mixedBlock mix (now (rcr .entry)) (b .stride) from) (now (cr .entry)) ⌝ }
 {
-    let t = both_2x2(rcb, rcr, from, stride, mix);
-    store_lanes(cb, stride, dx, dy, 2, 2, t, 0);
-    store_lanes(cr, stride, dx, dy, 2, 2, t, 4);
+    let t = both_2x2(rcb, rcr, from, b.stride, mix);
+    store_lanes(cb, b.stride, b.x, b.y, 2, 2, t, 0);
+    store_lanes(cr, b.stride, b.x, b.y, 2, 2, t, 4);
 }
 
 fn both_2x4(rcb: &[u8], rcr: &[u8], from: usize, stride: usize, mix: Mix) -> [u8; 16]
@@ -324,88 +261,54 @@ fn both_2x4(rcb: &[u8], rcr: &[u8], from: usize, stride: usize, mix: Mix) -> [u8
     mix_lanes(first, beside, second, last, mix)
 }
 
-fn pair_2x4(
-    cb: &mut [u8],
-    cr: &mut [u8],
-    rcb: &[u8],
-    rcr: &[u8],
-    stride: usize,
-    dx: usize,
-    dy: usize,
-    from: usize,
-    mix: Mix,
-)
-    requires { ⌜ FromSquare stride mix ⌝ }
-    requires { ⌜ Inside stride dx dy 2 4 (length (now cb)) × Inside stride dx dy 2 4 (length (now cr)) ⌝ }
-    requires { ⌜ (from + 4 * stride + 2 < length (now rcb)) × (from + 4 * stride + 2 < length (now rcr)) ⌝ }
-    ensures { λ _. ⌜ now (cb .exit) ≡ painted stride dx dy 2 4 (mixedBlock mix (now (rcb .entry)) stride from) (now (cb .entry)) ⌝ }
-    ensures { λ _. ⌜ now (cr .exit) ≡ painted stride dx dy 2 4 (mixedBlock mix (now (rcr .entry)) stride from) (now (cr .entry)) ⌝ }
+fn pair_2x4(cb: &mut [u8], cr: &mut [u8], rcb: &[u8], rcr: &[u8], b: Block, from: usize, mix: Mix)
+    requires { ⌜ FromSquare (b .stride) mix × (b .w ≡ 2) × (b .h ≡ 4) ⌝ }
+    requires { ⌜ BlockIn b (length (now cb)) × BlockIn b (length (now cr)) ⌝ }
+    requires { ⌜ (from + b .h * b .stride + b .w < length (now rcb)) × (from + b .h * b .stride + b .w < length (now rcr)) ⌝ }
+    ensures { λ _. ⌜ now (cb .exit) ≡ blockPainted b (mixedBlock mix (now (rcb .entry)) (b .stride) from) (now (cb .entry)) ⌝ }
+    ensures { λ _. ⌜ now (cr .exit) ≡ blockPainted b (mixedBlock mix (now (rcr .entry)) (b .stride) from) (now (cr .entry)) ⌝ }
 {
-    let t = both_2x4(rcb, rcr, from, stride, mix);
-    store_lanes(cb, stride, dx, dy, 2, 4, t, 0);
-    store_lanes(cr, stride, dx, dy, 2, 4, t, 8);
+    let t = both_2x4(rcb, rcr, from, b.stride, mix);
+    store_lanes(cb, b.stride, b.x, b.y, 2, 4, t, 0);
+    store_lanes(cr, b.stride, b.x, b.y, 2, 4, t, 8);
 }
 
 // A block by tiles, where its width and height allow it: as `mix_block` answers it.
-fn mix_one(
-    dst: &mut [u8],
-    src: &[u8],
-    dstride: usize,
-    dx: usize,
-    dy: usize,
-    w: usize,
-    h: usize,
-    stride: usize,
-    from: usize,
-    mix: Mix,
-)
+fn mix_one(dst: &mut [u8], src: &[u8], b: Block, stride: usize, from: usize, mix: Mix)
     requires { ⌜ FromSquare stride mix ⌝ }
-    requires { ⌜ Inside dstride dx dy w h (length (now dst)) ⌝ }
-    requires { ⌜ from + h * stride + w < length (now src) ⌝ }
-    ensures { λ _. ⌜ now (dst .exit) ≡ painted dstride dx dy w h (mixedBlock mix (now (src .entry)) stride from) (now (dst .entry)) ⌝ }
+    requires { ⌜ BlockIn b (length (now dst)) × (from + b .h * stride + b .w < length (now src)) ⌝ }
+    ensures { λ _. ⌜ now (dst .exit) ≡ blockPainted b (mixedBlock mix (now (src .entry)) stride from) (now (dst .entry)) ⌝ }
 {
-    if (w == 4) & (h % 4 == 0) {
-        mix_4x4(dst, src, dstride, dx, dy, h, stride, from, mix);
-    } else if (w == 8) & (h % 2 == 0) {
-        mix_8x2(dst, src, dstride, dx, dy, h, stride, from, mix);
-    } else if w == 16 {
-        mix_16x1(dst, src, dstride, dx, dy, h, stride, from, mix);
+    if (b.w == 4) & (b.h % 4 == 0) {
+        mix_4x4(dst, src, b, stride, from, mix);
+    } else if (b.w == 8) & (b.h % 2 == 0) {
+        mix_8x2(dst, src, b, stride, from, mix);
+    } else if b.w == 16 {
+        mix_16x1(dst, src, b, stride, from, mix);
     } else {
-        mix_block(dst, src, dstride, dx, dy, w, h, stride, from, mix);
+        mix_block(dst, src, b, stride, from, mix);
     }
 }
 
 // The same block of two planes.
-fn mix_pair(
-    cb: &mut [u8],
-    cr: &mut [u8],
-    rcb: &[u8],
-    rcr: &[u8],
-    stride: usize,
-    dx: usize,
-    dy: usize,
-    w: usize,
-    h: usize,
-    from: usize,
-    mix: Mix,
-)
-    requires { ⌜ FromSquare stride mix ⌝ }
-    requires { ⌜ Inside stride dx dy w h (length (now cb)) × Inside stride dx dy w h (length (now cr)) ⌝ }
-    requires { ⌜ (from + h * stride + w < length (now rcb)) × (from + h * stride + w < length (now rcr)) ⌝ }
-    ensures { λ _. ⌜ now (cb .exit) ≡ painted stride dx dy w h (mixedBlock mix (now (rcb .entry)) stride from) (now (cb .entry)) ⌝ }
-    ensures { λ _. ⌜ now (cr .exit) ≡ painted stride dx dy w h (mixedBlock mix (now (rcr .entry)) stride from) (now (cr .entry)) ⌝ }
+fn mix_pair(cb: &mut [u8], cr: &mut [u8], rcb: &[u8], rcr: &[u8], b: Block, from: usize, mix: Mix)
+    requires { ⌜ FromSquare (b .stride) mix ⌝ }
+    requires { ⌜ BlockIn b (length (now cb)) × BlockIn b (length (now cr)) ⌝ }
+    requires { ⌜ (from + b .h * b .stride + b .w < length (now rcb)) × (from + b .h * b .stride + b .w < length (now rcr)) ⌝ }
+    ensures { λ _. ⌜ now (cb .exit) ≡ blockPainted b (mixedBlock mix (now (rcb .entry)) (b .stride) from) (now (cb .entry)) ⌝ }
+    ensures { λ _. ⌜ now (cr .exit) ≡ blockPainted b (mixedBlock mix (now (rcr .entry)) (b .stride) from) (now (cr .entry)) ⌝ }
 {
-    if (w == 2) & (h == 2) {
-        pair_2x2(cb, cr, rcb, rcr, stride, dx, dy, from, mix);
-    } else if (w == 2) & (h == 4) {
-        pair_2x4(cb, cr, rcb, rcr, stride, dx, dy, from, mix);
-    } else if (w == 4) & (h % 2 == 0) {
-        pair_4x2(cb, cr, rcb, rcr, stride, dx, dy, h, from, mix);
-    } else if w == 8 {
-        pair_8x1(cb, cr, rcb, rcr, stride, dx, dy, h, from, mix);
+    if (b.w == 2) & (b.h == 2) {
+        pair_2x2(cb, cr, rcb, rcr, b, from, mix);
+    } else if (b.w == 2) & (b.h == 4) {
+        pair_2x4(cb, cr, rcb, rcr, b, from, mix);
+    } else if (b.w == 4) & (b.h % 2 == 0) {
+        pair_4x2(cb, cr, rcb, rcr, b, from, mix);
+    } else if b.w == 8 {
+        pair_8x1(cb, cr, rcb, rcr, b, from, mix);
     } else {
-        mix_block(cb, rcb, stride, dx, dy, w, h, stride, from, mix);
-        mix_block(cr, rcr, stride, dx, dy, w, h, stride, from, mix);
+        mix_block(cb, rcb, b, b.stride, from, mix);
+        mix_block(cr, rcr, b, b.stride, from, mix);
     }
 }
 
@@ -413,24 +316,20 @@ fn mix_pair(
 pub fn interpolate(
     dst: &mut [u8],
     src: &[u8],
-    dstride: usize,
-    dx: usize,
-    dy: usize,
-    w: usize,
-    h: usize,
+    b: Block,
     stride: usize,
     from: usize,
     px: u32,
     py: u32,
 )
-    requires { ⌜ Span w h × Inside dstride dx dy w h (length (now dst)) × (px < 6) × (py < 6) × (from + (h - 1 + extra px py) * stride + w + extra px py ≤ length (now src)) ⌝ }
-    ensures { λ _. ⌜ now (dst .exit) ≡ painted dstride dx dy w h (fourBlock (formula px py) (now (src .entry)) stride from) (now (dst .entry)) ⌝ }
+    requires { ⌜ Span (b .w) (b .h) × BlockIn b (length (now dst)) × (px < 6) × (py < 6) × (from + (b .h - 1 + extra px py) * stride + b .w + extra px py ≤ length (now src)) ⌝ }
+    ensures { λ _. ⌜ now (dst .exit) ≡ blockPainted b (fourBlock (formula px py) (now (src .entry)) stride from) (now (dst .entry)) ⌝ }
 {
     if extra_of(px, py) == 0 {
-        copy_by_width(dst, src, dstride, dx, dy, w, h, stride, from);
+        copy_by_width(dst, src, b, stride, from);
     } else {
         let mix = mix_of(px, py, stride);
-        mix_one(dst, src, dstride, dx, dy, w, h, stride, from, mix);
+        mix_one(dst, src, b, stride, from, mix);
     }
 }
 
@@ -440,25 +339,21 @@ pub fn interpolate_pair(
     cr: &mut [u8],
     rcb: &[u8],
     rcr: &[u8],
-    stride: usize,
-    dx: usize,
-    dy: usize,
-    w: usize,
-    h: usize,
+    b: Block,
     from: usize,
     px: u32,
     py: u32,
 )
-    requires { ⌜ Span w h × Inside stride dx dy w h (length (now cb)) × Inside stride dx dy w h (length (now cr)) × (px < 6) × (py < 6) ⌝ }
-    requires { ⌜ (from + (h - 1 + extra px py) * stride + w + extra px py ≤ length (now rcb)) × (from + (h - 1 + extra px py) * stride + w + extra px py ≤ length (now rcr)) ⌝ }
-    ensures { λ _. ⌜ now (cb .exit) ≡ painted stride dx dy w h (fourBlock (formula px py) (now (rcb .entry)) stride from) (now (cb .entry)) ⌝ }
-    ensures { λ _. ⌜ now (cr .exit) ≡ painted stride dx dy w h (fourBlock (formula px py) (now (rcr .entry)) stride from) (now (cr .entry)) ⌝ }
+    requires { ⌜ Span (b .w) (b .h) × BlockIn b (length (now cb)) × BlockIn b (length (now cr)) × (px < 6) × (py < 6) ⌝ }
+    requires { ⌜ (from + (b .h - 1 + extra px py) * b .stride + b .w + extra px py ≤ length (now rcb)) × (from + (b .h - 1 + extra px py) * b .stride + b .w + extra px py ≤ length (now rcr)) ⌝ }
+    ensures { λ _. ⌜ now (cb .exit) ≡ blockPainted b (fourBlock (formula px py) (now (rcb .entry)) (b .stride) from) (now (cb .entry)) ⌝ }
+    ensures { λ _. ⌜ now (cr .exit) ≡ blockPainted b (fourBlock (formula px py) (now (rcr .entry)) (b .stride) from) (now (cr .entry)) ⌝ }
 {
     if extra_of(px, py) == 0 {
-        copy_by_width(cb, rcb, stride, dx, dy, w, h, stride, from);
-        copy_by_width(cr, rcr, stride, dx, dy, w, h, stride, from);
+        copy_by_width(cb, rcb, b, b.stride, from);
+        copy_by_width(cr, rcr, b, b.stride, from);
     } else {
-        let mix = mix_of(px, py, stride);
-        mix_pair(cb, cr, rcb, rcr, stride, dx, dy, w, h, from, mix);
+        let mix = mix_of(px, py, b.stride);
+        mix_pair(cb, cr, rcb, rcr, b, from, mix);
     }
 }

@@ -6,6 +6,7 @@ ghost use Rattle.picture.specs.Rows.{row, run};
 ghost use Rattle.compensation.specs.Kernel.{originOf, near, nearFrom, picked, pickedAt, windowAt, Wide, runAt, edgeAt};
 ghost use Rattle.compensation.specs.Block.{Whole};
 use ints::clamp_i64;
+use picture::Size;
 use picture::rows::store_row;
 
 // The column, or row, of a block's first tap, held and counted from -17.
@@ -59,18 +60,17 @@ fn gather_each(
     window: &mut [u8],
     plane: &[u8],
     columns: &[usize; 17],
-    width: usize,
-    height: usize,
+    size: Size,
     by: usize,
     h: usize,
 )
     requires { ⌜ (h * 34 ≤ length (now window)) × (h ≤ 17) ⌝ }
-    requires { ⌜ Whole width height (length (now plane)) × (by ≤ height + 16) × ((k : ℕ) → k < 17 → getD (now columns) k 0 < width) ⌝ }
-    ensures { λ _. ⌜ Wide (now (window .exit)) 0 h (pickedAt (now (plane .entry)) (now (columns .entry)) width height by) ⌝ }
+    requires { ⌜ Whole (size .width) (size .height) (length (now plane)) × (by ≤ size .height + 16) × ((k : ℕ) → k < 17 → getD (now columns) k 0 < size .width) ⌝ }
+    ensures { λ _. ⌜ Wide (now (window .exit)) 0 h (pickedAt (now (plane .entry)) (now (columns .entry)) (size .width) (size .height) by) ⌝ }
 {
     let mut r = 0;
     while r < h {
-        let line = near_of(height, by + r) * width;
+        let line = near_of(size.height, by + r) * size.width;
         gather_row(window, plane, columns, r * 34, line);
         r += 1;
     }
@@ -97,22 +97,14 @@ fn copy_run(window: &mut [u8], at: usize, plane: &[u8], from: usize)
 }
 
 // 17 samples of each of h lines, from the column `from` on, into rows of 34 places: the first of them.
-fn gather_between(
-    window: &mut [u8],
-    plane: &[u8],
-    width: usize,
-    height: usize,
-    by: usize,
-    h: usize,
-    from: usize,
-)
+fn gather_between(window: &mut [u8], plane: &[u8], size: Size, by: usize, h: usize, from: usize)
     requires { ⌜ (h * 34 ≤ length (now window)) × (h ≤ 17) ⌝ }
-    requires { ⌜ Whole width height (length (now plane)) × (by ≤ height + 16) × (from + 17 ≤ width) ⌝ }
-    ensures { λ _. ⌜ Wide (now (window .exit)) 0 h (runAt (now (plane .entry)) width height by from) ⌝ }
+    requires { ⌜ Whole (size .width) (size .height) (length (now plane)) × (by ≤ size .height + 16) × (from + 17 ≤ size .width) ⌝ }
+    ensures { λ _. ⌜ Wide (now (window .exit)) 0 h (runAt (now (plane .entry)) (size .width) (size .height) by from) ⌝ }
 {
     let mut r = 0;
     while r < h {
-        let line = near_of(height, by + r) * width;
+        let line = near_of(size.height, by + r) * size.width;
         copy_run(window, r * 34, plane, line + from);
         r += 1;
     }
@@ -122,8 +114,7 @@ fn gather_between(
 fn gather_beside(
     window: &mut [u8],
     plane: &[u8],
-    width: usize,
-    height: usize,
+    size: Size,
     by: usize,
     h: usize,
     from: usize,
@@ -131,13 +122,13 @@ fn gather_beside(
     edge: usize,
 )
     requires { ⌜ (h * 34 ≤ length (now window)) × (h ≤ 17) × (to ≤ 17) × (to % 17 ≡ 0) ⌝ }
-    requires { ⌜ Whole width height (length (now plane)) × (by ≤ height + 16) × (from + 17 ≤ width) × (edge < width) ⌝ }
-    ensures { λ _. ⌜ Wide (now (window .exit)) to h (runAt (now (plane .entry)) width height by from) ⌝ }
-    ensures { λ _. ⌜ Wide (now (window .exit)) (17 - to) h (edgeAt (now (plane .entry)) width height by edge) ⌝ }
+    requires { ⌜ Whole (size .width) (size .height) (length (now plane)) × (by ≤ size .height + 16) × (from + 17 ≤ size .width) × (edge < size .width) ⌝ }
+    ensures { λ _. ⌜ Wide (now (window .exit)) to h (runAt (now (plane .entry)) (size .width) (size .height) by from) ⌝ }
+    ensures { λ _. ⌜ Wide (now (window .exit)) (17 - to) h (edgeAt (now (plane .entry)) (size .width) (size .height) by edge) ⌝ }
 {
     let mut r = 0;
     while r < h {
-        let line = near_of(height, by + r) * width;
+        let line = near_of(size.height, by + r) * size.width;
         let sample = plane[line + edge];
         copy_run(window, r * 34 + to, plane, line + from);
         fill_run(window, r * 34 + (17 - to), sample);
@@ -149,42 +140,25 @@ fn gather_beside(
 // Left of the plane a row is 17 times the line's first sample, then its first 17; right of it the last 17, then 17 times the last.
 // Between, and one by one, only the row's first 17 places are written.
 // Runs of known length need no loop, and nothing is clamped by column. A plane of less than 17 columns has no such runs.
-pub fn gather(
-    window: &mut [u8],
-    plane: &[u8],
-    width: usize,
-    height: usize,
-    bx: usize,
-    by: usize,
-    h: usize,
-) -> usize
+pub fn gather(window: &mut [u8], plane: &[u8], size: Size, bx: usize, by: usize, h: usize) -> usize
     requires { ⌜ (h * 34 ≤ length (now window)) × (h ≤ 17) ⌝ }
-    requires { ⌜ Whole width height (length (now plane)) × (bx ≤ width + 16) × (by ≤ height + 16) ⌝ }
-    ensures { λ from. ⌜ (from ≤ 17) × Wide (now (window .exit)) from h (windowAt (now (plane .entry)) width height bx by) ⌝ }
+    requires { ⌜ Whole (size .width) (size .height) (length (now plane)) × (bx ≤ size .width + 16) × (by ≤ size .height + 16) ⌝ }
+    ensures { λ from. ⌜ (from ≤ 17) × Wide (now (window .exit)) from h (windowAt (now (plane .entry)) (size .width) (size .height) bx by) ⌝ }
 {
+    let width = size.width;
     if width < 17 {
         let columns = columns_of(width, bx);
-        gather_each(window, plane, &columns, width, height, by, h);
+        gather_each(window, plane, &columns, size, by, h);
         return 0;
     }
     if bx < 17 {
-        gather_beside(window, plane, width, height, by, h, 0, 17, 0);
+        gather_beside(window, plane, size, by, h, 0, 17, 0);
         return bx;
     }
     if width < bx {
-        gather_beside(
-            window,
-            plane,
-            width,
-            height,
-            by,
-            h,
-            width - 17,
-            0,
-            width - 1,
-        );
+        gather_beside(window, plane, size, by, h, width - 17, 0, width - 1);
         return bx - width;
     }
-    gather_between(window, plane, width, height, by, h, bx - 17);
+    gather_between(window, plane, size, by, h, bx - 17);
     0
 }

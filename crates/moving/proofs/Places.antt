@@ -11,10 +11,11 @@ use lib.Dec.{lit≤, lit<}
 use lib.IntN.{ℤ, pos, negsuc, _+ℤ_}
 use lib.ListN.{length, getD}
 use Rattle.ints.specs.Z.{towardZero, floorZ, modZ}
-use Rattle.picture.specs.Painted.{Inside, painted}
+use Rattle.picture.specs.Painted.{Inside}
+use Rattle.picture.specs.Block.{BlockIn, blockPainted}
+use Rattle.picture.specs.declared.Block.{Block}
 use Rattle.picture.specs.Picture.{Within}
 use Rattle.picture.proofs.Laws.{macroblock-inside, painted-length}
-use Rattle.compensation.specs.Sample.{blockSample}
 use Rattle.compensation.specs.Formula.{formula}
 use Rattle.compensation.specs.Kernel.{originOf, windowBlock}
 use Rattle.compensation.specs.Block.{Whole, Span}
@@ -23,7 +24,7 @@ use Rattle.compensation.proofs.Taps.{placed-block}
 use Rattle.vectors.specs.Modes.{partitionWidth, partitionHeight, numMotionVectors, offsetX, offsetY}
 use Rattle.vectors.proofs.Partitions.{cut, inside, inside-units}
 use Rattle.questions.specs.declared.Call.{Call}
-use Rattle.moving.specs.Moved.{unit, planeLength, partX, partY, movedBlock, movedOnce, movedUpTo}
+use Rattle.moving.specs.Moved.{unit, planeLength, partX, partY, partBlock, vectorX, vectorY, movedBlock, movedOnce, movedUpTo}
 
 -- a rectangle inside another
 pub sub-inside : {st x y W H size : ℕ} (a b w h : ℕ) → Inside st x y W H size → a + w ≤ W → b + h ≤ H → Inside st (x + a) (y + b) w h size
@@ -80,36 +81,24 @@ module _ (cols rows : ℕ) (call : Call) (i : ℕ) (g : Within cols rows (call .
   part-small true = let p = inside (call .mode) i mode among in (omega (arith, g .across, g .wide), omega (arith, g .down, g .high))
   part-small false = let p = inside (call .mode) i mode among in (omega (arith, g .across, g .wide, div-one (16 * call .column + offsetX (call .mode) i)), omega (arith, g .down, g .high, div-one (16 * call .row + offsetY (call .mode) i)))
 
--- the numbers of a partition, and what they allow
-pub record Placed (chroma : Bool) (call : Call) (i n x y w h : ℕ) : Type 0 where
-  pub n-is : n ≡ 16 / unit chroma
-  pub x-is : x ≡ partX (unit chroma) call i
-  pub y-is : y ≡ partY (unit chroma) call i
-  pub w-is : w ≡ partitionWidth (call .mode) / unit chroma
-  pub h-is : h ≡ partitionHeight (call .mode) / unit chroma
-
-module _ {chroma : Bool} {call : Call} {i n x y w h : ℕ} (p : Placed chroma call i n x y w h) (cols rows : ℕ) where
+-- a partition's block, in a plane of `height` rows
+module _ (chroma : Bool) (call : Call) (i cols rows : ℕ) {height : ℕ} {b : Block} (p : b ≡ partBlock (unit chroma) cols call i) (q : height ≡ 16 / unit chroma * rows) where
+  -- what it allows
   pub ready : {size other : ℕ} → Within cols rows (call .column) (call .row) → call .mode ≤ 7 → i < numMotionVectors (call .mode)
       → size ≡ planeLength (unit chroma) cols rows → other ≡ planeLength (unit chroma) cols rows
-      → Span w h × Inside (n * cols) x y w h size × Whole (n * cols) (n * rows) other
+      → Span (b .w) (b .h) × BlockIn b size × Whole (b .stride) height other × (b .x < 131072) × (b .y < 131072)
   ready g m l e f =
-      rw (e, f, p .n-is, p .x-is, p .y-is, p .w-is, p .h-is)
-      (part-span cols rows call i g m l chroma, part-inside cols rows call i g m l chroma, plane-whole (16 / unit chroma) (side chroma .0) (side chroma .1) g)
+      let s = part-small cols rows call i g m l chroma in
+      rw (e, f, p, q)
+      (part-span cols rows call i g m l chroma, part-inside cols rows call i g m l chroma, plane-whole (16 / unit chroma) (side chroma .0) (side chroma .1) g, s .0, s .1)
 
-  -- what compensation left is the definition's plane
-  pub moved : (ref : List ℕ) (vs : List ℤ) (pic : List ℕ) {pic′ : List ℕ} {zx zy vx vy : ℤ} → pic′ ≡ painted (n * cols) x y w h (blockSample ref (n * cols) (n * rows) zx zy vx vy) pic
-      → zx ≡ pos x → zy ≡ pos y
-      → vx ≡ towardZero (getD vs (2 * i) (pos 0)) (unit chroma) → vy ≡ towardZero (getD vs (2 * i + 1) (pos 0)) (unit chroma)
+  -- what compensation by its taps left is the definition's plane
+  pub moved : (ref : List ℕ) (vs : List ℤ) (pic : List ℕ) {pic′ : List ℕ} {ox oy : ℤ} {px py : ℕ} → Span (b .w) (b .h)
+      → taps.Placed (pos (b .x)) (pos (b .y)) (towardZero (vectorX vs i) (unit chroma)) (towardZero (vectorY vs i) (unit chroma)) ox oy px py
+      → pic′ ≡ blockPainted b (windowBlock (formula px py) ref (b .stride) height (originOf (b .stride) ox) (originOf height oy)) pic
       → pic′ ≡ movedOnce (unit chroma) cols rows ref call vs i pic
   unfolding movedOnce movedBlock
-  moved ref vs pic q ex ey e f = q ∙ rw (ex, ey, e, f, p .n-is, p .x-is, p .y-is, p .w-is, p .h-is)
-
-  -- the same, by the taps that it read
-  pub moved-taps : (ref : List ℕ) (vs : List ℤ) (pic : List ℕ) {pic′ : List ℕ} {ox oy : ℤ} {px py : ℕ} → Span w h
-      → taps.Placed (pos x) (pos y) (towardZero (getD vs (2 * i) (pos 0)) (unit chroma)) (towardZero (getD vs (2 * i + 1) (pos 0)) (unit chroma)) ox oy px py
-      → pic′ ≡ painted (n * cols) x y w h (windowBlock (formula px py) ref (n * cols) (n * rows) (originOf (n * cols) ox) (originOf (n * rows) oy)) pic
-      → pic′ ≡ movedOnce (unit chroma) cols rows ref call vs i pic
-  moved-taps ref vs pic s t q = moved ref vs pic (q ∙ placed-block ref (n * cols) (n * rows) t (n * cols) x y w h pic s) refl refl refl refl
+  moved ref vs pic s t r = r ∙ placed-block ref (b .stride) height t (b .stride) (b .x) (b .y) (b .w) (b .h) pic s ∙ rw (p, q)
 
 -- taps of the same block
 pub placed-as : {px py : ℕ} {x y vx vy ox oy x′ y′ vx′ vy′ : ℤ} → taps.Placed x y vx vy ox oy px py → x ≡ x′ → y ≡ y′ → vx ≡ vx′ → vy ≡ vy′ → taps.Placed x′ y′ vx′ vy′ ox oy px py
@@ -123,9 +112,6 @@ placed-as p ex ey evx evy = record {
 -- at most 16 samples a macroblock
 pub few : (chroma : Bool) (n m : ℕ) → n ≡ 16 / unit chroma → m ≤ 4096 → n * m ≤ 65536
 few chroma n m e h = let k : n * m ≤ 16 * m = mul-le-mul-right m (omega (arith, side chroma .1)) in omega arith
-
-pub some : (chroma : Bool) (n m : ℕ) → n ≡ 16 / unit chroma → 0 < m → 0 < n * m
-some chroma n m e h = mul-pos (omega (arith, side chroma .0)) h
 
 -- the plane keeps its length
 pub moved-length : (u cols rows : ℕ) (ref : List ℕ) (call : Call) (vs : List ℤ) (i : ℕ) (pic : List ℕ) → length (movedOnce u cols rows ref call vs i pic) ≡ length pic

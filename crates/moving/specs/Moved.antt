@@ -7,6 +7,7 @@ use lib.IntN.{ℤ, pos}
 use lib.ListN.{getD}
 use Rattle.ints.specs.Z.{towardZero}
 use Rattle.picture.specs.Painted.{painted}
+use Rattle.picture.specs.declared.Block.{Block}
 use Rattle.compensation.specs.Sample.{blockSample}
 use Rattle.vectors.specs.Modes.{partitionWidth, partitionHeight, offsetX, offsetY}
 use Rattle.questions.specs.declared.Call.{Call}
@@ -34,6 +35,17 @@ partX u call i = (16 * call .column + offsetX (call .mode) i) / u
 
 unfoldable pub partY : ℕ → Call → ℕ → ℕ
 partY u call i = (16 * call .row + offsetY (call .mode) i) / u
+
+-- its block, as a struct: for inner contracts
+abbrev pub partBlock : ℕ → ℕ → Call → ℕ → Block
+partBlock u cols call i =
+    record {
+      stride = 16 / u * cols;
+      x = partX u call i;
+      y = partY u call i;
+      w = partitionWidth (call .mode) / u;
+      h = partitionHeight (call .mode) / u;
+    }
 
 -- its samples
 unfoldable pub movedBlock : ℕ → ℕ → ℕ → List ℕ → Call → List ℤ → ℕ → ℕ → ℕ → ℕ

@@ -1,20 +1,22 @@
 // Compensation of each partition of a macroblock, in one plane.
 ghost use mathlib.Core.Path.{_≡_};
 ghost use mathlib.Core.Bool.{true, false};
-ghost use Prim.Native.Nat.{_+_, _*_, _/_, _<_, _≤_};
+ghost use Prim.Native.Nat.{_/_, _<_, _≤_};
 ghost use lib.IntN.{pos};
 ghost use lib.ListN.{length};
 ghost use Rattle.ints.specs.Z.{towardZero};
 ghost use Rattle.picture.specs.Picture.{Within};
 ghost use Rattle.compensation.specs.Block.{Span};
 ghost use Rattle.compensation.specs.Taps.{Placed, TapsIn};
-ghost use Rattle.vectors.specs.Modes.{partitionWidth, partitionHeight, numMotionVectors};
-ghost use Rattle.moving.specs.Moved.{unit, planeLength, partX, partY, vectorX, vectorY, movedOnce, movedUpTo};
+ghost use Rattle.vectors.specs.Modes.{numMotionVectors};
+ghost use Rattle.moving.specs.Moved.{unit, planeLength, partBlock, vectorX, vectorY, movedOnce, movedUpTo};
 use compensation::svq3_mc::Taps;
 use compensation::svq3_mc::compensate_both;
 use compensation::svq3_mc::compensate_taps;
 use compensation::svq3_mc::taps_of;
 use ints::half_toward_zero;
+use picture::Block;
+use picture::Size;
 use questions::Call;
 use vectors::svq3_mb::num_motion_vectors;
 use vectors::svq3_mb::partition_height;
@@ -36,23 +38,16 @@ fn vector_over(chroma: bool, v: i32) -> i32
     if chroma { half_toward_zero(v) } else { v }
 }
 
-// Where a partition lies in a plane, in its samples, and how large it is.
-struct Part {
-    x: usize,
-    y: usize,
-    w: usize,
-    h: usize,
-}
-
-fn part_of(call: Call, chroma: bool, i: usize) -> Part
-    requires { ⌜ (call .mode ≤ 7) × (i < numMotionVectors (call .mode)) ⌝ }
-    ensures { λ r. ⌜ (r .x ≡ partX (unit chroma) call i) × (r .y ≡ partY (unit chroma) call i) ⌝ }
-    ensures { λ r. ⌜ (r .w ≡ partitionWidth (call .mode) / unit chroma) × (r .h ≡ partitionHeight (call .mode) / unit chroma) ⌝ }
+// Where partition i lies in a plane of a picture that is `cols` macroblocks wide.
+fn block_of(call: Call, cols: usize, chroma: bool, i: usize) -> Block
+    requires { ⌜ (cols ≤ 4096) × (call .mode ≤ 7) × (i < numMotionVectors (call .mode)) ⌝ }
+    ensures { λ r. ⌜ r ≡ partBlock (unit chroma) cols call i ⌝ }
 {
     let mode = call.mode;
     let column = call.column as usize;
     let row = call.row as usize;
-    Part {
+    Block {
+        stride: over(chroma, 16) * cols,
         x: over(chroma, 16 * column + partition_offset_x(mode, i)),
         y: over(chroma, 16 * row + partition_offset_y(mode, i)),
         w: over(chroma, partition_width(mode)),
@@ -60,19 +55,16 @@ fn part_of(call: Call, chroma: bool, i: usize) -> Part
     }
 }
 
-// How partition i, which is p, reads its taps in a plane.
-fn taps_in(vectors: &[i32], cols: usize, rows: usize, chroma: bool, p: Part, i: usize) -> Taps
-    requires { ⌜ (0 < cols) × (cols ≤ 4096) × (0 < rows) × (rows ≤ 4096) × (i < 16) × (length (now vectors) ≡ 32) ⌝ }
-    requires { ⌜ Span (p .w) (p .h) × (p .x < 131072) × (p .y < 131072) ⌝ }
-    ensures { λ r. ⌜ Placed (pos (p .x)) (pos (p .y)) (towardZero (vectorX (now (vectors .entry)) i) (unit chroma)) (towardZero (vectorY (now (vectors .entry)) i) (unit chroma)) (r .ox) (r .oy) (r .px) (r .py) ⌝ }
-    ensures { λ r. ⌜ TapsIn (16 / unit chroma * cols) (16 / unit chroma * rows) (p .w) (p .h) r ⌝ }
+// How partition i, which is the block b, reads its taps in a plane of that size.
+fn taps_in(vectors: &[i32], b: Block, size: Size, chroma: bool, i: usize) -> Taps
+    requires { ⌜ (0 < size .width) × (size .width ≤ 65536) × (0 < size .height) × (size .height ≤ 65536) × (i < 16) × (length (now vectors) ≡ 32) ⌝ }
+    requires { ⌜ Span (b .w) (b .h) × (b .x < 131072) × (b .y < 131072) ⌝ }
+    ensures { λ r. ⌜ Placed (pos (b .x)) (pos (b .y)) (towardZero (vectorX (now (vectors .entry)) i) (unit chroma)) (towardZero (vectorY (now (vectors .entry)) i) (unit chroma)) (r .ox) (r .oy) (r .px) (r .py) ⌝ }
+    ensures { λ r. ⌜ TapsIn (size .width) (size .height) (b .w) (b .h) r ⌝ }
 {
-    let side = over(chroma, 16);
-    let width = side * cols;
-    let height = side * rows;
     let vx = vector_over(chroma, vectors[2 * i]);
     let vy = vector_over(chroma, vectors[2 * i + 1]);
-    taps_of(p.w, p.h, width, height, p.x as i32, p.y as i32, vx, vy)
+    taps_of(b.w, b.h, size, b.x as i32, b.y as i32, vx, vy)
 }
 
 // Partition i of a macroblock's luma.
@@ -89,11 +81,13 @@ fn compensate_partition(
     requires { ⌜ (length (now pic) ≡ planeLength (unit false) cols rows) × (length (now reference) ≡ planeLength (unit false) cols rows) × (length (now vectors) ≡ 32) ⌝ }
     ensures { λ _. ⌜ now (pic .exit) ≡ movedOnce (unit false) cols rows (now (reference .entry)) call (now (vectors .entry)) i (now (pic .entry)) ⌝ }
 {
-    let width = 16 * cols;
-    let height = 16 * rows;
-    let p = part_of(call, false, i);
-    let t = taps_in(vectors, cols, rows, false, p, i);
-    compensate_taps(pic, reference, width, p.x, p.y, p.w, p.h, width, height, t);
+    let b = block_of(call, cols, false, i);
+    let size = Size {
+        width: b.stride,
+        height: 16 * rows,
+    };
+    let t = taps_in(vectors, b, size, false, i);
+    compensate_taps(pic, reference, b, size, t);
 }
 
 // All partitions of a macroblock's luma.
@@ -134,11 +128,13 @@ fn compensate_pair(
     ensures { λ _. ⌜ now (cb .exit) ≡ movedOnce (unit true) cols rows (now (rcb .entry)) call (now (vectors .entry)) i (now (cb .entry)) ⌝ }
     ensures { λ _. ⌜ now (cr .exit) ≡ movedOnce (unit true) cols rows (now (rcr .entry)) call (now (vectors .entry)) i (now (cr .entry)) ⌝ }
 {
-    let width = 8 * cols;
-    let height = 8 * rows;
-    let p = part_of(call, true, i);
-    let t = taps_in(vectors, cols, rows, true, p, i);
-    compensate_both(cb, cr, rcb, rcr, p.x, p.y, p.w, p.h, width, height, t);
+    let b = block_of(call, cols, true, i);
+    let size = Size {
+        width: b.stride,
+        height: 8 * rows,
+    };
+    let t = taps_in(vectors, b, size, true, i);
+    compensate_both(cb, cr, rcb, rcr, b, size, t);
 }
 
 // All partitions of both chroma planes.

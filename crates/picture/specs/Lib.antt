@@ -1,3 +1,4 @@
 pub mod Painted
 pub mod Picture
 pub mod Rows
+pub mod Block

@@ -2,9 +2,10 @@
 ghost use mathlib.Core.Path.{_≡_};
 ghost use Prim.Native.Nat.{_+_, _*_, _≤_};
 ghost use lib.ListN.{length, replicate};
-ghost use Rattle.picture.specs.Painted.{Inside};
+ghost use Rattle.picture.specs.Block.{BlockIn};
 ghost use Rattle.picture.specs.Picture.{copied};
 ghost use Rattle.picture.specs.Rows.{row, run};
+use crate::Block;
 
 // n samples of `block` from `from` on, as the first of sixteen.
 fn take_row(block: &[u8], from: usize, n: usize) -> [u8; 16]
@@ -34,24 +35,15 @@ pub fn store_row(plane: &mut [u8], at: usize, block: &[u8], from: usize, n: usiz
     }
 }
 
-// The w × h samples at column x of row y, from `other` to the same places of `plane`.
-pub fn copy_block(
-    plane: &mut [u8],
-    stride: usize,
-    x: usize,
-    y: usize,
-    w: usize,
-    h: usize,
-    other: &[u8],
-)
-    requires { ⌜ Inside stride x y w h (length (now plane)) ⌝ }
-    requires { ⌜ (w ≤ 16) × Inside stride x y w h (length (now other)) ⌝ }
-    ensures { λ _. ⌜ now (plane .exit) ≡ copied (now (plane .entry)) stride x y w h (now (other .entry)) ⌝ }
+// The block's samples, from `other` to the same places of `plane`.
+pub fn copy_block(plane: &mut [u8], other: &[u8], b: Block)
+    requires { ⌜ (b .w ≤ 16) × BlockIn b (length (now plane)) × BlockIn b (length (now other)) ⌝ }
+    ensures { λ _. ⌜ now (plane .exit) ≡ copied (now (plane .entry)) (b .stride) (b .x) (b .y) (b .w) (b .h) (now (other .entry)) ⌝ }
 {
     let mut r = 0;
-    while r < h {
-        let at = (y + r) * stride + x;
-        store_row(plane, at, other, at, w);
+    while r < b.h {
+        let at = (b.y + r) * b.stride + b.x;
+        store_row(plane, at, other, at, b.w);
         r += 1;
     }
 }

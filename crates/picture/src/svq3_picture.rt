@@ -3,6 +3,7 @@ ghost use mathlib.Core.Path.{_≡_};
 ghost use Prim.Native.Nat.{_*_};
 ghost use lib.ListN.{length};
 ghost use Rattle.picture.specs.Picture.{copied, Within, Sized};
+use crate::Block;
 use crate::rows::copy_block;
 
 pub fn copy_macroblock_from(
@@ -24,7 +25,21 @@ pub fn copy_macroblock_from(
     ensures { λ _. ⌜ now (cb .exit) ≡ copied (now (cb .entry)) (8 * cols) (8 * column) (8 * row) 8 8 (now (rcb .entry)) ⌝ }
     ensures { λ _. ⌜ now (cr .exit) ≡ copied (now (cr .entry)) (8 * cols) (8 * column) (8 * row) 8 8 (now (rcr .entry)) ⌝ }
 {
-    copy_block(luma, 16 * cols, 16 * column, 16 * row, 16, 16, rluma);
-    copy_block(cb, 8 * cols, 8 * column, 8 * row, 8, 8, rcb);
-    copy_block(cr, 8 * cols, 8 * column, 8 * row, 8, 8, rcr);
+    let in_luma = Block {
+        stride: 16 * cols,
+        x: 16 * column,
+        y: 16 * row,
+        w: 16,
+        h: 16,
+    };
+    let in_chroma = Block {
+        stride: 8 * cols,
+        x: 8 * column,
+        y: 8 * row,
+        w: 8,
+        h: 8,
+    };
+    copy_block(luma, rluma, in_luma);
+    copy_block(cb, rcb, in_chroma);
+    copy_block(cr, rcr, in_chroma);
 }

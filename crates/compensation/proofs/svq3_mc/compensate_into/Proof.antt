@@ -12,8 +12,8 @@ returns : tie.Need-returns
 returns c =
     let s = c .before .before .before .before .before .before .before in
     let a = s .args in
-    c .before .before .compensate-taps .ensures ∙ placed-block (a .plane .now) (a .width) (a .height) (c .before .before .before .before .taps-of .ensures .0) (a .dstride) (a .dx) (a .dy) (a .w) (a .h) (a .dst .now) (s .pre .0)
-    ∙ (λ i. painted (a .dstride) (a .dx) (a .dy) (a .w) (a .h) (blockSample (a .plane .now) (a .width) (a .height) (toZ-ofZ (s .fits .x) i) (toZ-ofZ (s .fits .y) i) (toZ-ofZ (s .fits .vx) i) (toZ-ofZ (s .fits .vy) i)) (a .dst .now))
+    c .before .before .compensate-taps .ensures ∙ placed-block (a .plane .now) (a .size .width) (a .size .height) (c .before .before .before .before .taps-of .ensures .0) (a .b .stride) (a .b .x) (a .b .y) (a .b .w) (a .b .h) (a .dst .now) (s .pre .0)
+    ∙ (λ i. painted (a .b .stride) (a .b .x) (a .b .y) (a .b .w) (a .b .h) (blockSample (a .plane .now) (a .size .width) (a .size .height) (toZ-ofZ (s .fits .x) i) (toZ-ofZ (s .fits .y) i) (toZ-ofZ (s .fits .vx) i) (toZ-ofZ (s .fits .vy) i)) (a .dst .now))
 
 pub compensate-into-spec : {M : Type 1} → statement M
 compensate-into-spec = tie.close (tie.spec (λ c κs. search needs) (λ c κs. search needs) (λ c. search needs) returns)

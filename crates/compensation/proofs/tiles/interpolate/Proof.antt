@@ -10,7 +10,7 @@ use Rattle.compensation.proofs.Taps.{extra-zero, mixed-room}
 use Rattle.compensation.proofs.tiles.interpolate.Statement.{statement}
 use Rattle.compensation.proofs.tiles.interpolate.Tie as tie
 
-room : (c : tie.Else1) → let a = c .before .before .before .before .args in a .from + a .h * a .stride + a .w < length (a .src .now)
+room : (c : tie.Else1) → let a = c .before .before .before .before .args in a .from + a .b .h * a .stride + a .b .w < length (a .src .now)
 room c =
     let s = c .before .before .before .before in
     let a = s .args in
@@ -32,7 +32,7 @@ returns c =
 returns-2 : tie.Need-returns-2
 returns-2 c =
     let a = c .before .before .before .before .before .before .before .before .before .args in
-    c .before .before .mix-one .ensures ∙ mixed-block (a .dstride) (a .dx) (a .dy) (a .w) (a .h) (a .src .now) (a .stride) (a .from) (a .dst .now) (c .before .before .before .before .mix-of .ensures)
+    c .before .before .mix-one .ensures ∙ mixed-block (a .b .stride) (a .b .x) (a .b .y) (a .b .w) (a .b .h) (a .src .now) (a .stride) (a .from) (a .dst .now) (c .before .before .before .before .mix-of .ensures)
 
 pub interpolate-spec : {M : Type 1} → statement M
 interpolate-spec =

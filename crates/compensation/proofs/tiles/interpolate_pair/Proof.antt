@@ -13,11 +13,11 @@ use Rattle.compensation.proofs.tiles.interpolate_pair.Tie as tie
 one : (c : tie.Else1) → let a = c .before .before .before .before .before .before .args in extra (a .px) (a .py) ≡ 1
 one c = omega (arith, c .before .extra-of .ensures, c .if1 .left)
 
-cb-room : (c : tie.Else1) → let a = c .before .before .before .before .before .before .args in a .from + a .h * a .stride + a .w < length (a .rcb .now)
-cb-room c = let s = c .before .before .before .before .before .before in let a = s .args in mixed-room (a .px) (a .py) (a .stride) (a .from) (length (a .rcb .now)) (s .pre .0 .0) (one c) (s .pre .1 .0)
+cb-room : (c : tie.Else1) → let a = c .before .before .before .before .before .before .args in a .from + a .b .h * a .b .stride + a .b .w < length (a .rcb .now)
+cb-room c = let s = c .before .before .before .before .before .before in let a = s .args in mixed-room (a .px) (a .py) (a .b .stride) (a .from) (length (a .rcb .now)) (s .pre .0 .0) (one c) (s .pre .1 .0)
 
-cr-room : (c : tie.Else1) → let a = c .before .before .before .before .before .before .args in a .from + a .h * a .stride + a .w < length (a .rcr .now)
-cr-room c = let s = c .before .before .before .before .before .before in let a = s .args in mixed-room (a .px) (a .py) (a .stride) (a .from) (length (a .rcr .now)) (s .pre .0 .0) (one c) (s .pre .1 .1)
+cr-room : (c : tie.Else1) → let a = c .before .before .before .before .before .before .args in a .from + a .b .h * a .b .stride + a .b .w < length (a .rcr .now)
+cr-room c = let s = c .before .before .before .before .before .before in let a = s .args in mixed-room (a .px) (a .py) (a .b .stride) (a .from) (length (a .rcr .now)) (s .pre .0 .0) (one c) (s .pre .1 .1)
 
 mix-of-requires : tie.Need-mix-of-requires
 mix-of-requires c κs = let s = c .before .before .before .before .before .before in (s .pre .0 .3, s .pre .0 .4)
@@ -38,8 +38,8 @@ returns-2 c =
     let a = c .before .before .before .before .before .before .before .before .before .before .before .before .before .before .args in
     let m = c .before .before .before .before .before .before .before .mix-of .ensures in
     let p = c .before .before .before .before .mix-pair .ensures in (
-      p .0 ∙ mixed-block (a .stride) (a .dx) (a .dy) (a .w) (a .h) (a .rcb .now) (a .stride) (a .from) (a .cb .now) m,
-      p .1 ∙ mixed-block (a .stride) (a .dx) (a .dy) (a .w) (a .h) (a .rcr .now) (a .stride) (a .from) (a .cr .now) m,
+      p .0 ∙ mixed-block (a .b .stride) (a .b .x) (a .b .y) (a .b .w) (a .b .h) (a .rcb .now) (a .b .stride) (a .from) (a .cb .now) m,
+      p .1 ∙ mixed-block (a .b .stride) (a .b .x) (a .b .y) (a .b .w) (a .b .h) (a .rcr .now) (a .b .stride) (a .from) (a .cr .now) m,
     )
 
 pub interpolate-pair-spec : {M : Type 1} → statement M

@@ -1,25 +1,31 @@
 -- `compensation::tiles::pair_2x2` meets its contract: one tile, half of it for each plane.
+use native.Mathlib.Omega.{arith}
 use borrow.Author.Needs.{needs}
 use Rattle.compensation.specs.Kernel.{mixedBlock}
 use Rattle.compensation.proofs.Lanes.{tile-whole}
 use Rattle.compensation.proofs.tiles.pair_2x2.Statement.{statement}
 use Rattle.compensation.proofs.tiles.pair_2x2.Tie as tie
 
+both-2x2-requires : tie.Need-both-2x2-requires
+both-2x2-requires c κs = let p = c .before .before .before .before .pre in (p .0 .0, rw (p .0 .1, p .0 .2) at (p .1 .1 .0), rw (p .0 .1, p .0 .2) at (p .1 .1 .1))
+
 returns : tie.Need-returns
 returns c =
-    let a = c .before .before .before .before .before .before .before .before .before .before .before .before .before .args in
-    let t = c .before .before .before .before .before .before .before .before .both-2x2 in (
-      tile-whole (a .cb .now) (t .result) (a .stride) (a .dx) (a .dy) 0 2 2 (mixedBlock (a .mix) (a .rcb .now) (a .stride) (a .from)) (t .ensures .0) (c .before .before .before .before .before .before .store-lanes .ensures),
-      tile-whole (a .cr .now) (t .result) (a .stride) (a .dx) (a .dy) 4 2 2 (mixedBlock (a .mix) (a .rcr .now) (a .stride) (a .from)) (t .ensures .1) (c .before .before .store-lanes2 .ensures),
+    let s = c .before .before .before .before .before .before .before .before .before .before .before .before .before in
+    let a = s .args in
+    let t = c .before .before .before .before .before .before .before .before .both-2x2 in
+    rw (s .pre .0 .1, s .pre .0 .2) (
+      tile-whole (a .cb .now) (t .result) (a .b .stride) (a .b .x) (a .b .y) 0 2 2 (mixedBlock (a .mix) (a .rcb .now) (a .b .stride) (a .from)) (t .ensures .0) (c .before .before .before .before .before .before .store-lanes .ensures),
+      tile-whole (a .cr .now) (t .result) (a .b .stride) (a .b .x) (a .b .y) 4 2 2 (mixedBlock (a .mix) (a .rcr .now) (a .b .stride) (a .from)) (t .ensures .1) (c .before .before .store-lanes2 .ensures),
     )
 
 pub pair-2x2-spec : {M : Type 1} → statement M
 pair-2x2-spec =
     tie.close
     (tie.spec
-    (λ c κs. search needs)
-    (λ c κs. search needs)
-    (λ c κs. search needs)
+    both-2x2-requires
+    (λ c κs. let p = c .before .before .before .before .before .before .pre in (omega arith, omega arith, omega arith, rw (p .0 .1, p .0 .2) at (p .1 .0 .0)))
+    (λ c κs. let p = c .before .before .before .before .before .before .before .before .before .before .pre in (omega arith, omega arith, omega arith, rw (p .0 .1, p .0 .2) at (p .1 .0 .1)))
     (λ c. search needs)
     (λ c. search needs)
     returns)

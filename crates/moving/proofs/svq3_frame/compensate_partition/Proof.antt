@@ -4,7 +4,7 @@ use mathlib.Core.Bool.{false}
 use Prim.Native.Nat.{_<_}
 use native.Mathlib.Omega.{arith}
 use Rattle.vectors.proofs.Partitions.{num-most}
-use Rattle.moving.proofs.Places.{Placed, ready, moved-taps, part-small}
+use Rattle.moving.proofs.Places.{ready, moved}
 use Rattle.moving.proofs.svq3_frame.compensate_partition.Statement.{statement}
 use Rattle.moving.proofs.svq3_frame.compensate_partition.Tie as tie
 
@@ -12,40 +12,34 @@ use Rattle.moving.proofs.svq3_frame.compensate_partition.Tie as tie
 sixteen : (s : tie.Start) → s .args .i < 16
 sixteen s = omega (arith, num-most (s .args .call .mode) (s .pre .0 .1), s .pre .0 .2)
 
--- the partition, as it was answered
-placed : (c : tie.After-part-of) → let a = c .before .before .before .args in Placed false (a .call) (a .i) 16 (c .part-of .result .x) (c .part-of .result .y) (c .part-of .result .w) (c .part-of .result .h)
-placed c = record { n-is = refl; x-is = c .part-of .ensures .0 .0; y-is = c .part-of .ensures .0 .1; w-is = c .part-of .ensures .1 .0; h-is = c .part-of .ensures .1 .1 }
-
 taps-in-requires : tie.Need-taps-in-requires
 taps-in-requires c κs =
     let s = c .before .before .before in
     let a = s .args in
-    let g = s .pre .0 .0 in
-    let m = part-small (a .cols) (a .rows) (a .call) (a .i) g (s .pre .0 .1) (s .pre .0 .2) false in (
-      (omega (arith, g), g .wide, omega (arith, g), g .high, sixteen s, s .pre .1 .2),
-      (ready (placed c) (a .cols) (a .rows) g (s .pre .0 .1) (s .pre .0 .2) (s .pre .1 .0) (s .pre .1 .1) .0, rw (c .part-of .ensures .0 .0) (m .0), rw (c .part-of .ensures .0 .1) (m .1)),
-    )
+    let r = ready false (a .call) (a .i) (a .cols) (a .rows) (c .block-of .ensures) refl (s .pre .0 .0) (s .pre .0 .1) (s .pre .0 .2) (s .pre .1 .0) (s .pre .1 .1) in
+    ((r .2 .columns .0, r .2 .columns .1, r .2 .lines .0, r .2 .lines .1, sixteen s, s .pre .1 .2), (r .0, r .3, r .4))
 
 compensate-taps-requires : tie.Need-compensate-taps-requires
 compensate-taps-requires c κs =
     let s = c .before .before .before .before .before in
-    let r = ready (placed (c .before .before)) (s .args .cols) (s .args .rows) (s .pre .0 .0) (s .pre .0 .1) (s .pre .0 .2) (s .pre .1 .0) (s .pre .1 .1) in
+    let a = s .args in
+    let r = ready false (a .call) (a .i) (a .cols) (a .rows) (c .before .before .block-of .ensures) refl (s .pre .0 .0) (s .pre .0 .1) (s .pre .0 .2) (s .pre .1 .0) (s .pre .1 .1) in
     (r .0, r .1, r .2, c .before .taps-in .ensures .1)
 
 returns : tie.Need-returns
 returns c =
     let s = c .before .before .before .before .before .before .before .before in
     let a = s .args in
-    let p = placed (c .before .before .before .before .before) in
-    moved-taps p (a .cols) (a .rows) (a .reference .now) (a .vectors .now) (a .pic .now) (ready p (a .cols) (a .rows) (s .pre .0 .0) (s .pre .0 .1) (s .pre .0 .2) (s .pre .1 .0) (s .pre .1 .1) .0) (c .before .before .before .before .taps-in .ensures .0) (c .before .before .compensate-taps .ensures)
+    let b = c .before .before .before .before .before .block-of .ensures in
+    let r = ready false (a .call) (a .i) (a .cols) (a .rows) b refl (s .pre .0 .0) (s .pre .0 .1) (s .pre .0 .2) (s .pre .1 .0) (s .pre .1 .1) in
+    moved false (a .call) (a .i) (a .cols) (a .rows) b refl (a .reference .now) (a .vectors .now) (a .pic .now) (r .0) (c .before .before .before .before .taps-in .ensures .0) (c .before .before .compensate-taps .ensures)
 
 pub compensate-partition-spec : {M : Type 1} → statement M
 compensate-partition-spec =
     tie.close
     (tie.spec
-    (λ c. omega (arith, c .before .before .pre .0 .0 .wide))
-    (λ c. omega (arith, c .before .before .pre .0 .0 .high))
-    (λ c κs. (c .before .before .pre .0 .1, c .before .before .pre .0 .2))
+    (λ c κs. (c .before .before .pre .0 .0 .wide, c .before .before .pre .0 .1, c .before .before .pre .0 .2))
+    (λ c. omega (arith, c .before .before .before .pre .0 .0 .high))
     taps-in-requires
     compensate-taps-requires
     (λ c. c .before .before .compensate-taps .kept .0)

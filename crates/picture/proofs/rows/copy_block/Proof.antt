@@ -15,30 +15,30 @@ use Rattle.picture.proofs.rows.copy_block.Lts as lts
 use Rattle.picture.proofs.rows.store_row.Reads as store-row-reads
 
 abbrev Inv-loop : tie.InvT-loop
-Inv-loop plane₀ stride x y w h other r₀ plane r = (r ≤ h) × (length plane ≡ length plane₀) × (plane ≡ rows plane₀ stride x y (seen other stride x y) w r)
+Inv-loop plane₀ other b r₀ plane r = (r ≤ b .h) × (length plane ≡ length plane₀) × (plane ≡ rows plane₀ (b .stride) (b .x) (b .y) (seen other (b .stride) (b .x) (b .y)) (b .w) r)
 
 abbrev μ-loop : tie.MeasureT-loop
-μ-loop plane₀ stride x y w h other r₀ plane r = h - r
+μ-loop plane₀ other b r₀ plane r = b .h - r
 
 loop-holds : tie.Need-loop-holds Inv-loop μ-loop
 unfolding rows
 loop-holds c = (omega arith, refl, refl)
 
 -- the row of a turn lies within either plane
-lies : (c : tie.In-loop Inv-loop μ-loop) → let a = c .before .before .before .before .args in Row (a .stride) (a .x) (a .y) (a .w) (c .before .loop .r) (length (now (a .plane))) × Row (a .stride) (a .x) (a .y) (a .w) (c .before .loop .r) (length (now (a .other)))
-lies c = let p = c .before .before .before .before .pre in (inside-row (p .0) (c .loop-test .taken), inside-row (p .1 .1) (c .loop-test .taken))
+lies : (c : tie.Then1 Inv-loop μ-loop) → let a = c .before .before .before .before .before .args in Row (a .b .stride) (a .b .x) (a .b .y) (a .b .w) (c .before .before .loop .r) (length (now (a .plane))) × Row (a .b .stride) (a .b .x) (a .b .y) (a .b .w) (c .before .before .loop .r) (length (now (a .other)))
+lies c = let p = c .before .before .before .before .before .pre in (inside-row (p .1) (c .if1 .taken), inside-row (p .2) (c .if1 .taken))
 
 add-at : tie.Need-add-at Inv-loop μ-loop
-add-at c = omega (arith, lies c)
+add-at c = omega (arith, lies (c .before))
 
 mul-at : tie.Need-mul-at Inv-loop μ-loop
-mul-at c = omega (arith, lies c)
+mul-at c = omega (arith, lies (c .before .before))
 
 add-at-2 : tie.Need-add-at-2 Inv-loop μ-loop
-add-at-2 c = omega (arith, lies c)
+add-at-2 c = omega (arith, lies (c .before .before .before))
 
 store-row-requires : tie.Need-store-row-requires Inv-loop μ-loop
-store-row-requires c κs = omega (arith, lies (c .before))
+store-row-requires c κs = omega (arith, lies (c .before .before .before .before))
 
 add-r : tie.Need-add-r Inv-loop μ-loop
 add-r c = omega arith
@@ -55,7 +55,7 @@ same-length c = omega arith
 
 returns : tie.Need-returns Inv-loop μ-loop
 unfolding copied
-returns c = let e : c .before .loop .r ≡ c .before .before .before .before .args .h = omega arith in c .before .loop .inv .2 ∙ rw e (rows-painted 0 _ _ (c .before .before .before .before .pre .0))
+returns c = let e : c .before .before .loop .r ≡ c .before .before .before .before .before .args .b .h = omega arith in c .before .before .loop .inv .2 ∙ rw e (rows-painted 0 _ _ (c .before .before .before .before .before .pre .1))
 
 pub copy-block-spec : {M : Type 1} → statement M
 copy-block-spec =
