@@ -4,12 +4,10 @@ use mathlib.Core.Path.{_≡_}
 use mathlib.Core.Bool.{Bool, true, _&&_}
 use mathlib.Core.List.{List}
 use Prim.Native.Nat.{ℕ, zero, suc, _+_, _-_, _*_, _%_, _<_, min}
-use lib.Dec.{eqb, leb, ltb}
+use lib.Dec.{leb, ltb}
 use lib.IntN.{ℤ, pos, negsuc}
-use lib.ListN.{length, getD, take, drop}
-use lib.Seq.{sets}
+use lib.ListN.{length, getD}
 use Rattle.ints.specs.Z.{if_then_else_}
-use Rattle.record.specs.Write.{signedNumbers}
 
 -- z held in -128 to 127, and counted from -128 on; `negsuc n` is -(n + 1)
 unfoldable pub nearOf : ℤ → ℕ
@@ -29,12 +27,3 @@ allNear t (suc n) = (allNear t n && leb 64 (getD t n 0)) && ltb (getD t n 0) 192
 pub record Near (l : List ℤ) (first n : ℕ) (t : List ℕ) : Type 0 where
   pub size : length t ≡ 16
   pub each : (k : ℕ) → k < n → getD t k 0 ≡ nearOf (getD l (first + k) (pos 0))
-
--- how many numbers from `first` on are stored where n are to be written: the one behind them too if the n + 1 are a byte each
-unfoldable pub storedCount : List ℤ → ℕ → ℕ → ℕ
-storedCount numbers first n = if eqb (length (signedNumbers (take (n + 1) (drop first numbers)))) (n + 1) then n + 1 else n
-
--- n numbers from `first` on, written to `out` from a place on: the place after them, and what `out` holds then
-pub record Ahead (out : List ℕ) (at : ℕ) (numbers : List ℤ) (first n next : ℕ) (left : List ℕ) : Type 0 where
-  pub moved : next ≡ at + length (signedNumbers (take n (drop first numbers)))
-  pub leaves : left ≡ sets out at (signedNumbers (take (storedCount numbers first n) (drop first numbers)))

@@ -8,7 +8,7 @@ ghost use Rattle.record.specs.Write.{signedNumbers, itemsBytes, restBytes, reco
 ghost use Rattle.record.specs.Sides.{sideBytes};
 ghost use Rattle.record.specs.Record.{recordOf, skipRecord};
 ghost use Rattle.transcript.specs.Answers.{Written};
-ghost use Rattle.transcript.specs.Short.{nearOf, sentNear, allNear, Near, Ahead};
+ghost use Rattle.transcript.specs.Short.{nearOf, sentNear, allNear, Near};
 ghost use Rattle.record.specs.Range.{HeadRange};
 use ints::clamp_i32;
 use number::put_number;
@@ -107,19 +107,6 @@ fn put_list(out: &mut [u8], numbers: &[i32], at: usize, first: usize, count: usi
     put_signed_numbers(out, numbers, at, first, count)
 }
 
-// `count` signed numbers, and where they are short the one behind them too, over which the next byte is written: with 15 the compiler stores sixteen bytes at once.
-fn put_list_ahead(out: &mut [u8], numbers: &[i32], at: usize, first: usize, count: usize) -> usize
-    requires { ⌜ (count < 16) × (first + count < length (now numbers)) × (at + length (signedNumbers (take count (drop first (now numbers)))) < length (now out)) ⌝ }
-    ensures { λ r. ⌜ Ahead (now (out .entry)) at (now (numbers .entry)) first count r (now (out .exit)) ⌝ }
-{
-    let t = take_near(numbers, first, count + 1);
-    if all_short(&t, count + 1) {
-        put_short(out, &t, at, count + 1);
-        return at + count;
-    }
-    put_signed_numbers(out, numbers, at, first, count)
-}
-
 // The four lists of a luma quadrant, which stand side by side from `place` on.
 fn put_blocks(out: &mut [u8], levels: &[i32], at: usize, place: usize) -> usize
     requires { ⌜ (place + 64 ≤ length (now levels)) × (at + length (sideBytes ResidualBook.NormalScan 0 4 place (now levels)) ≤ length (now out)) ⌝ }
@@ -134,25 +121,6 @@ fn put_blocks(out: &mut [u8], levels: &[i32], at: usize, place: usize) -> usize
     p
 }
 
-// The same, at once where all numbers are short.
-fn put_four(out: &mut [u8], levels: &[i32], at: usize, place: usize) -> usize
-    requires { ⌜ (place + 64 ≤ length (now levels)) × (at + length (sideBytes ResidualBook.NormalScan 0 4 place (now levels)) ≤ length (now out)) ⌝ }
-    ensures { λ r. ⌜ Written (now (out .entry)) at (sideBytes ResidualBook.NormalScan 0 4 place (now (levels .entry))) r (now (out .exit)) ⌝ }
-{
-    let a = take_near(levels, place, 16);
-    let b = take_near(levels, place + 16, 16);
-    let c = take_near(levels, place + 16 + 16, 16);
-    let d = take_near(levels, place + 16 + 16 + 16, 16);
-    if all_short(&a, 16) & all_short(&b, 16) & all_short(&c, 16) & all_short(&d, 16) {
-        put_short(out, &a, at, 16);
-        put_short(out, &b, at + 16, 16);
-        put_short(out, &c, at + 16 + 16, 16);
-        put_short(out, &d, at + 16 + 16 + 16, 16);
-        return at + 16 + 16 + 16 + 16;
-    }
-    put_blocks(out, levels, at, place)
-}
-
 // The eight chroma AC lists, which have no place 0.
 fn put_ac(out: &mut [u8], levels: &[i32], at: usize) -> usize
     requires { ⌜ (length (now levels) ≡ 392) × (at + length (sideBytes ResidualBook.NormalScan 1 8 264 (now levels)) ≤ length (now out)) ⌝ }
@@ -160,11 +128,11 @@ fn put_ac(out: &mut [u8], levels: &[i32], at: usize) -> usize
 {
     let mut p = at;
     let mut i = 0;
-    while i < 7 {
-        p = put_list_ahead(out, levels, p, 265 + 16 * i, 15);
+    while i < 8 {
+        p = put_list(out, levels, p, 265 + 16 * i, 15);
         i += 1;
     }
-    put_list(out, levels, p, 377, 15)
+    p
 }
 
 // The lists of luma quadrant q, where they are coded.
@@ -173,7 +141,7 @@ fn put_quadrant(out: &mut [u8], levels: &[i32], at: usize, pattern: u8, q: usize
     ensures { λ r. ⌜ Written (now (out .entry)) at (itemsBytes 4 (4 * q) pattern (now (levels .entry))) r (now (out .exit)) ⌝ }
 {
     if luma_quadrant_coded(pattern, q as u32) {
-        return put_four(out, levels, at, 64 * q);
+        return put_blocks(out, levels, at, 64 * q);
     }
     at
 }

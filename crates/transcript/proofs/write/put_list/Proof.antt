@@ -1,6 +1,5 @@
 -- `transcript::write::put_list`: short numbers are the bytes that they are sent as; others go the long way.
 use mathlib.Core.Path.{sym, _∙_}
-use native.Mathlib.Omega.{arith}
 use borrow.Author.Needs.{needs}
 use Rattle.transcript.proofs.Short.{near-fits, near-written}
 use Rattle.transcript.proofs.write.put_list.Statement.{statement}

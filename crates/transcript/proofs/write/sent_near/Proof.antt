@@ -1,5 +1,4 @@
 -- `transcript::write::sent_near`: its test is that of `sentNear`.
-use mathlib.Core.Path.{sym}
 use borrow.Author.Needs.{needs}
 use borrow.Author.Tests.{lt-ltb, le-ltb}
 use Rattle.ints.specs.Z.{if_then_else_}
