@@ -9,11 +9,13 @@ use cases::head::wide;
 use cases::slices::put_bytes;
 use cases::slices::put_pattern;
 use cases::start::put_block;
+use checking::RecordAnswer;
+use checking::check_record;
 use moved::MbMoved;
 use outcome::Cursor;
 use outcome::MbAnswer;
-use parsing::parse::ParseAnswer;
-use parsing::parse::parse_record;
+use parsing::parse::PlaceAnswer;
+use parsing::parse::parse_place;
 use refusal::Refusal;
 
 fn refused(why: Refusal, head: &[u8; 80]) -> bool {
@@ -51,26 +53,24 @@ pub fn answered(got: MbMoved, head: &[u8; 80]) -> bool {
     }
 }
 
+// Column, row and mode of the record are the call's.
+fn placed(transcript: &[u8], at: usize, head: &[u8; 80]) -> bool {
+    let column = number_at(head, 12);
+    let row = number_at(head, 16);
+    let mode = number_at(head, 20);
+    match parse_place(transcript, at, number_at(head, 4), number_at(head, 8)) {
+        PlaceAnswer::Skip(c, r, _) => (c == column) & (r == row) & (mode == 0),
+        PlaceAnswer::Coded(h, _) => (h.column == column) & (h.row == row) & (h.mode == mode),
+        PlaceAnswer::Refused(_) => false,
+    }
+}
+
 // The record is read back to the call and to its end.
 fn parses(transcript: &[u8], head: &[u8; 80]) -> bool {
-    let mut vectors = [0i32; 32];
-    let mut levels = [0i32; 392];
     let at = short_at(head, 62);
-    match parse_record(
-        &mut vectors,
-        &mut levels,
-        transcript,
-        at,
-        number_at(head, 4),
-        number_at(head, 8),
-    ) {
-        ParseAnswer::Parsed(record, next) => {
-            (record.column == number_at(head, 12))
-                & (record.row == number_at(head, 16))
-                & (record.mode == number_at(head, 20))
-                & (next == end_of(head))
-        }
-        ParseAnswer::Refused(_) => false,
+    match check_record(transcript, at, number_at(head, 4), number_at(head, 8)) {
+        RecordAnswer::Record(next) => (next == end_of(head)) & placed(transcript, at, head),
+        RecordAnswer::Refused(_) => false,
     }
 }
 
