@@ -20,63 +20,63 @@ use Rattle.number.proofs.Numbers.{lt-or-le, one-group}
 use Rattle.record.specs.Write.{signedNumbers}
 use Rattle.record.proofs.Sets.{sets-append}
 use Rattle.transcript.specs.Answers.{Written}
-use Rattle.transcript.specs.Short.{nearOf, sentNear, allNear, Near}
+use Rattle.transcript.specs.Short.{heldOf, sentShort, allShort, Held}
 
 -- ---- the test
 pub both : (a b : Bool) → (a && b) ≡ true → (a ≡ true) × (b ≡ true)
 both true b e = (refl, e)
 both false b e = absurd (let z : _≡_ {A = ℕ} 0 1 = cc in omega arith)
 
-pub near-each : (t : List ℕ) (n : ℕ) → allNear t n ≡ true → (k : ℕ) → k < n → (64 ≤ getD t k 0) × (getD t k 0 < 192)
-unfolding allNear
-near-each t zero e k h = absurd (omega arith)
-near-each t (suc n) e k h =
-    let a = both (allNear t n && leb 64 (getD t n 0)) (ltb (getD t n 0) 192) e in
-    let b = both (allNear t n) (leb 64 (getD t n 0)) (a .0) in
+pub short-each : (t : List ℕ) (n : ℕ) → allShort t n ≡ true → (k : ℕ) → k < n → (64 ≤ getD t k 0) × (getD t k 0 < 192)
+unfolding allShort
+short-each t zero e k h = absurd (omega arith)
+short-each t (suc n) e k h =
+    let a = both (allShort t n && leb 64 (getD t n 0)) (ltb (getD t n 0) 192) e in
+    let b = both (allShort t n) (leb 64 (getD t n 0)) (a .0) in
     ⊎-elim
-    (λ (i : k < n). near-each t n (b .0) k i)
+    (λ (i : k < n). short-each t n (b .0) k i)
     (λ (i : n ≤ k).
     let j : k ≡ n = omega arith in
     rw j (leb-true 64 (getD t n 0) (b .1), ltb-true (getD t n 0) 192 (a .1)))
     (lt-or-le k n)
 
 -- ---- a number held in -128 to 127
-pub near-held : (z : ℤ) → clampZ (negsuc 127) (pos 127) z +ℤ pos 128 ≡ pos (nearOf z)
-unfolding clampZ nearOf if_then_else_
-near-held (pos n) = go (ltb 127 n) refl
+pub held-is : (z : ℤ) → clampZ (negsuc 127) (pos 127) z +ℤ pos 128 ≡ pos (heldOf z)
+unfolding clampZ heldOf if_then_else_
+held-is (pos n) = go (ltb 127 n) refl
   where
     go : (t : Bool) → ltb 127 n ≡ t → (if t then pos 127 else pos n) +ℤ pos 128 ≡ pos (128 + min n 127)
     go true e = ap pos (omega (arith, ltb-true 127 n e))
     go false e = ap pos (omega (arith, ltb-false 127 n e))
-near-held (negsuc n) = go (ltb 127 n) refl
+held-is (negsuc n) = go (ltb 127 n) refl
   where
     go : (t : Bool) → ltb 127 n ≡ t → (if t then negsuc 127 else negsuc n) +ℤ pos 128 ≡ pos (127 - n)
     go true e = ap pos (omega (arith, ltb-true 127 n e))
     go false e = sub-ind (λ z. z ≡ pos (127 - n)) 128 (suc n) (λ k h. absurd (omega (arith, ltb-false 127 n e))) (λ k h. ap pos (omega (arith, ltb-false 127 n e)))
 
-pub near-small : (z : ℤ) → nearOf z < 256
-unfolding nearOf
-near-small (pos n) = omega arith
-near-small (negsuc n) = omega arith
+pub held-small : (z : ℤ) → heldOf z < 256
+unfolding heldOf
+held-small (pos n) = omega arith
+held-small (negsuc n) = omega arith
 
 -- ---- what they are sent as
-near-sent : (z : ℤ) → 64 ≤ nearOf z → nearOf z < 192 → (sentNear (nearOf z) < 128) × (sentNear (nearOf z) ≡ sent z)
-unfolding nearOf sentNear sent if_then_else_
-near-sent (pos n) h k =
+short-sent : (z : ℤ) → 64 ≤ heldOf z → heldOf z < 192 → (sentShort (heldOf z) < 128) × (sentShort (heldOf z) ≡ sent z)
+unfolding heldOf sentShort sent if_then_else_
+short-sent (pos n) h k =
     let m : min n 127 ≡ n = omega arith in
     let r : (128 + n) % 128 ≡ n = omega arith in
     let l : 2 * n < 128 = omega arith in
     rw (m, r, lt-ltb (2 * n) 128 l) (l, refl)
-near-sent (negsuc n) h k =
+short-sent (negsuc n) h k =
     let r : (127 - n) % 128 ≡ 127 - n = omega arith in
     let l : 128 ≤ 2 * (127 - n) = omega arith in
     rw (r, le-ltb (2 * (127 - n)) 128 l) (omega arith, omega arith)
 
 -- ---- written
 -- one more of them
-module _ {l : List ℤ} {first n : ℕ} {t : List ℕ} (s : Near l first n t) where
-  pub near-turn : (v : ℕ) → n < 16 → v ≡ nearOf (getD l (first + n) (pos 0)) → Near l first (n + 1) (set t n v)
-  near-turn v h e = record {
+module _ {l : List ℤ} {first n : ℕ} {t : List ℕ} (s : Held l first n t) where
+  pub held-turn : (v : ℕ) → n < 16 → v ≡ heldOf (getD l (first + n) (pos 0)) → Held l first (n + 1) (set t n v)
+  held-turn v h e = record {
     size = length-set t n v ∙ s .size;
     each = λ k i. ⊎-elim
         (λ (j : k < n). getD-set-other t n k v 0 (λ (x : k ≡ n). omega arith) ∙ s .each k j)
@@ -98,9 +98,9 @@ unfolding signedNumber number
 one-byte z b h e = rw (← e) (one-group 4 b h)
 
 -- the byte of each
-pub sent-at : (t : List ℕ) (k : ℕ) → getD (map sentNear t) k 0 ≡ sentNear (getD t k 0)
-unfolding sentNear if_then_else_
-sent-at t k = List·getD-map sentNear t k 0
+pub sent-at : (t : List ℕ) (k : ℕ) → getD (map sentShort t) k 0 ≡ sentShort (getD t k 0)
+unfolding sentShort if_then_else_
+sent-at t k = List·getD-map sentShort t k 0
 
 shorts : (zs : List ℤ) (bs : List ℕ) → length bs ≡ length zs → ((k : ℕ) → k < length zs → (getD bs k 0 < 128) × (getD bs k 0 ≡ sent (getD zs k (pos 0)))) → signedNumbers zs ≡ bs
 unfolding signedNumbers
@@ -112,23 +112,23 @@ shorts (z ∷ zs) (b ∷ bs) e h =
     rw (one-byte z b (o .0) (o .1), shorts zs bs (omega arith) (λ k i. h (suc k) (omega arith)))
 
 -- NUMBERS FROM -64 TO 63 ARE THE LIST OF WHAT THEY ARE SENT AS
-module _ (l : List ℤ) (first n : ℕ) (t : List ℕ) (h : first + n ≤ length l) (m : n ≤ 16) (s : Near l first n t) (e : allNear t n ≡ true) where
-  pub near-numbers : signedNumbers (take n (drop first l)) ≡ take n (map sentNear t)
-  near-numbers =
+module _ (l : List ℤ) (first n : ℕ) (t : List ℕ) (h : first + n ≤ length l) (m : n ≤ 16) (s : Held l first n t) (e : allShort t n ≡ true) where
+  pub short-numbers : signedNumbers (take n (drop first l)) ≡ take n (map sentShort t)
+  short-numbers =
       let a : length (take n (drop first l)) ≡ n = length-take-le n (drop first l) (omega (arith, length-drop first l)) in
-      let b : length (take n (map sentNear t)) ≡ n = length-take-le n (map sentNear t) (omega (arith, s .size, length-map t sentNear)) in
-      shorts (take n (drop first l)) (take n (map sentNear t)) (b ∙ sym a) (λ k i.
+      let b : length (take n (map sentShort t)) ≡ n = length-take-le n (map sentShort t) (omega (arith, s .size, length-map t sentShort)) in
+      shorts (take n (drop first l)) (take n (map sentShort t)) (b ∙ sym a) (λ k i.
       let j : k < n = omega arith in
-      let r = near-each t n e k j in
-      let y = near-sent (getD l (first + k) (pos 0)) (rw (← s .each k j) (r .0)) (rw (← s .each k j) (r .1)) in
-      rw (getD-take n (map sentNear t) k 0 j, getD-take n (drop first l) k (pos 0) j, getD-drop first l k (pos 0), sent-at t k, s .each k j) y)
+      let r = short-each t n e k j in
+      let y = short-sent (getD l (first + k) (pos 0)) (rw (← s .each k j) (r .0)) (rw (← s .each k j) (r .1)) in
+      rw (getD-take n (map sentShort t) k 0 j, getD-take n (drop first l) k (pos 0) j, getD-drop first l k (pos 0), sent-at t k, s .each k j) y)
 
-  near-count : length (signedNumbers (take n (drop first l))) ≡ n
-  near-count = ap length near-numbers ∙ length-take-le n (map sentNear t) (omega (arith, s .size, length-map t sentNear))
+  short-count : length (signedNumbers (take n (drop first l))) ≡ n
+  short-count = ap length short-numbers ∙ length-take-le n (map sentShort t) (omega (arith, s .size, length-map t sentShort))
 
   module _ (out : List ℕ) (at : ℕ) where
-    pub near-fits : at + length (signedNumbers (take n (drop first l))) ≤ length out → at + n ≤ length out
-    near-fits k = omega (arith, near-count)
+    pub short-fits : at + length (signedNumbers (take n (drop first l))) ≤ length out → at + n ≤ length out
+    short-fits k = omega (arith, short-count)
 
-    pub near-written : {left : List ℕ} → left ≡ sets out at (take n (map sentNear t)) → Written out at (signedNumbers (take n (drop first l))) (at + n) left
-    near-written w = record { moved = omega (arith, near-count); leaves = w ∙ ap (sets out at) (sym near-numbers) }
+    pub short-written : {left : List ℕ} → left ≡ sets out at (take n (map sentShort t)) → Written out at (signedNumbers (take n (drop first l))) (at + n) left
+    short-written w = record { moved = omega (arith, short-count); leaves = w ∙ ap (sets out at) (sym short-numbers) }

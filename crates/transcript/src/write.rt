@@ -8,7 +8,7 @@ ghost use Rattle.record.specs.Write.{signedNumbers, itemsBytes, restBytes, reco
 ghost use Rattle.record.specs.Sides.{sideBytes};
 ghost use Rattle.record.specs.Record.{recordOf, skipRecord};
 ghost use Rattle.transcript.specs.Answers.{Written};
-ghost use Rattle.transcript.specs.Short.{nearOf, sentNear, allNear, Near};
+ghost use Rattle.transcript.specs.Short.{heldOf, sentShort, allShort, Held};
 ghost use Rattle.record.specs.Range.{HeadRange};
 use ints::clamp_i32;
 use number::put_number;
@@ -40,39 +40,39 @@ fn put_signed_numbers(
 }
 
 // A number held in -128 to 127, and counted from -128 on.
-fn near_of(v: i32) -> u8
-    ensures { λ r. ⌜ r ≡ nearOf v ⌝ }
+fn held_of(v: i32) -> u8
+    ensures { λ r. ⌜ r ≡ heldOf v ⌝ }
 {
     (clamp_i32(v, -128, 127) + 128) as u8
 }
 
-// What a number from -64 to 63 is sent as, by its `near_of`.
-fn sent_near(near: u8) -> u8
-    ensures { λ r. ⌜ r ≡ sentNear near ⌝ }
+// What a short number is sent as, by its `held_of`. Numbers from -64 to 63 are short: one byte each.
+fn sent_short(held: u8) -> u8
+    ensures { λ r. ⌜ r ≡ sentShort held ⌝ }
 {
-    let twice = 2 * (near % 128);
+    let twice = 2 * (held % 128);
     if twice < 128 { twice } else { 255 - twice }
 }
 
-// `near_of` of `count` numbers from the place `first` on: the first of sixteen. Each is a byte, so that the compiler has sixteen in a register.
-fn take_near(numbers: &[i32], first: usize, count: usize) -> [u8; 16]
+// `held_of` of `count` numbers from the place `first` on: the first of sixteen. Each is a byte, so that the compiler has sixteen in a register.
+fn take_held(numbers: &[i32], first: usize, count: usize) -> [u8; 16]
     requires { ⌜ (count ≤ 16) × (first + count ≤ length (now numbers)) ⌝ }
-    ensures { λ r. ⌜ Near (now (numbers .entry)) first count r ⌝ }
+    ensures { λ r. ⌜ Held (now (numbers .entry)) first count r ⌝ }
 {
     let mut t = [0u8; 16];
     let mut i = 0;
     while i < count {
         let v = numbers[first + i];
-        t[i] = near_of(v);
+        t[i] = held_of(v);
         i += 1;
     }
     t
 }
 
-// Whether each of the first `count` is a byte by itself, as numbers from -64 to 63 are.
+// Whether each of the first `count` is that of a short number.
 fn all_short(t: &[u8; 16], count: usize) -> bool
     requires { ⌜ count ≤ 16 ⌝ }
-    ensures { λ r. ⌜ r ≡ allNear (now (t .entry)) count ⌝ }
+    ensures { λ r. ⌜ r ≡ allShort (now (t .entry)) count ⌝ }
 {
     let mut short = true;
     let mut i = 0;
@@ -85,11 +85,11 @@ fn all_short(t: &[u8; 16], count: usize) -> bool
 
 fn put_short(out: &mut [u8], t: &[u8; 16], at: usize, count: usize)
     requires { ⌜ (count ≤ 16) × (length (now t) ≡ 16) × (at + count ≤ length (now out)) ⌝ }
-    ensures { λ _. ⌜ now (out .exit) ≡ sets (now (out .entry)) at (take count (map sentNear (now (t .entry)))) ⌝ }
+    ensures { λ _. ⌜ now (out .exit) ≡ sets (now (out .entry)) at (take count (map sentShort (now (t .entry)))) ⌝ }
 {
     let mut i = 0;
     while i < count {
-        out[at + i] = sent_near(t[i]);
+        out[at + i] = sent_short(t[i]);
         i += 1;
     }
 }
@@ -99,7 +99,7 @@ fn put_list(out: &mut [u8], numbers: &[i32], at: usize, first: usize, count: usi
     requires { ⌜ (count ≤ 16) × (first + count ≤ length (now numbers)) × (at + length (signedNumbers (take count (drop first (now numbers)))) ≤ length (now out)) ⌝ }
     ensures { λ r. ⌜ Written (now (out .entry)) at (signedNumbers (take count (drop first (now (numbers .entry))))) r (now (out .exit)) ⌝ }
 {
-    let t = take_near(numbers, first, count);
+    let t = take_held(numbers, first, count);
     if all_short(&t, count) {
         put_short(out, &t, at, count);
         return at + count;
