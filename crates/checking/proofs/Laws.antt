@@ -1,22 +1,31 @@
 -- Laws of the records of a transcript: a record takes a byte at least, enough turns give the same records, and the first record is in front of the records of the rest.
 -- Assumes nothing.
-use mathlib.Core.Path.{_≡_, refl, ap}
+use mathlib.Core.Path.{_≡_, refl, sym, ap, _∙_}
 use mathlib.Core.Bool.{true}
 use mathlib.Core.List.{List, []}
-use Prim.Native.Nat.{ℕ, _≤_, _<_}
+use Prim.Native.Nat.{ℕ, _+_, _≤_, _<_}
 use native.Mathlib.Omega.{arith}
+use lib.IntN.{ℤ}
 use lib.ListN.{length, drop}
-use Rattle.refusal.specs.Got.{Got, got, refused}
+use Rattle.refusal.specs.Got.{Got, got, refused, after}
+use Rattle.refusal.specs.declared.Refusal.{Refusal}
 use Rattle.refusal.proofs.Formats.{bounded}
 use Rattle.lists.proofs.Laws.{Takes, First, Next, untilAll, until-more, until-got, until-next, until-none, tally}
 use Rattle.questions.specs.Questions.{gridRight}
 use Rattle.questions.proofs.Laws.{grid}
 use Rattle.record.specs.Record.{Record}
-use Rattle.record.specs.Parse.{parseRecord}
+use Rattle.record.specs.Parse.{parseMotion, parseRecord}
+use Rattle.record.specs.declared.Head.{Head}
 use Rattle.record.proofs.Records.{record-format}
 use Rattle.record.proofs.Lengths.{record-some}
+use Rattle.parsing.specs.Answers.{Parsing}
+use Rattle.parsing.specs.declared.parse.ParseAnswer.{ParseAnswer}
+use Rattle.parsing.specs.declared.parse.ParseAnswer.the-variants as parse
+use Rattle.parsing.proofs.Answers.{parsed, parse-refused}
+use Rattle.parsing.proofs.Places.{CodedRead}
 use Rattle.checking.specs.Records.{recordsIn, records}
-use Rattle.checking.specs.Check.{checkAnswer}
+use Rattle.checking.specs.Check.{recordAnswer, checkAnswer}
+use Rattle.checking.specs.declared.RecordAnswer.the-variants as one
 use Rattle.checking.specs.declared.CheckAnswer.the-variants.{Records, Refused}
 
 module _ (cols rows : ℕ) where
@@ -57,3 +66,29 @@ module _ (cols rows : ℕ) where
 -- in a grid that is right
 pub grid-takes : (cols rows : ℕ) → gridRight cols rows ≡ true → Takes (parseRecord cols rows)
 grid-takes cols rows e = let g = grid cols rows e in record-takes cols rows (g .most-cols) (g .most-rows)
+
+-- ---- what was answered of one record
+-- what follows its mode was read
+module _ {at : ℕ} {g : Got Record} {a : ParseAnswer} {vs ls : List ℤ} (p : Parsing at g a vs ls) where
+  pub rest-read : (h : Head) (next : ℕ) → a ≡ parse.Parsed h next → one.Record next ≡ recordAnswer at g
+  rest-read h next i = let b = parsed at g h next vs ls (rw i at p) in ap one.Record (b .moved) ∙ ap (recordAnswer at) (sym (b .is))
+
+  pub rest-refused : (why : Refusal) → a ≡ parse.Refused why → one.Refused why ≡ recordAnswer at g
+  rest-refused why i = ap (recordAnswer at) (sym (parse-refused at g why vs ls (rw i at p)))
+
+-- and ends where the record does
+pub rest-answer : {cols rows : ℕ} {s : List ℕ} {at : ℕ} {h : Head} {next : ℕ} → CodedRead cols rows s at h next → recordAnswer next (parseMotion h (drop next s)) ≡ recordAnswer at (parseRecord cols rows (drop at s))
+rest-answer {s = s} {at = at} {h = h} {next = next} r = go (parseMotion h (drop next s)) ∙ ap (recordAnswer at) (sym (r .is))
+  where
+    go : (g : Got Record) → recordAnswer next g ≡ recordAnswer at (after (r .taken) g)
+    go (got x k) = ap one.Record (omega (arith, r .moved))
+    go (refused why) = refl
+
+-- of the definition
+pub record-read : (at : ℕ) (g : Got Record) (next : ℕ) → one.Record next ≡ recordAnswer at g → (r : Record) × (n : ℕ) × (g ≡ got r n) × (next ≡ at + n)
+record-read at (got r n) next e = (r, n, refl, cc)
+record-read at (refused why) next e = absurd (let z : _≡_ {A = ℕ} 0 1 = cc in omega arith)
+
+pub not-record : (at : ℕ) (g : Got Record) (why : Refusal) → one.Refused why ≡ recordAnswer at g → g ≡ refused why
+not-record at (got r n) why e = absurd (let z : _≡_ {A = ℕ} 0 1 = cc in omega arith)
+not-record at (refused w) why e = ap refused (cc)

@@ -5,6 +5,8 @@ use crate::bytes::number_at;
 use crate::bytes::short_at;
 use crate::head::frame_of;
 use crate::head::refused;
+use checking::RecordAnswer;
+use checking::check_record;
 use macroblock::svq3_frame::decode_inter_mb;
 use moved::MbMoved;
 use moved::decode_moved;
@@ -12,8 +14,8 @@ use outcome::Cursor;
 use outcome::Frame;
 use outcome::MbAnswer;
 use outcome::cursor_by;
-use parsing::parse::ParseAnswer;
-use parsing::parse::parse_record;
+use parsing::parse::PlaceAnswer;
+use parsing::parse::parse_place;
 use questions::Call;
 
 fn call_of(head: &[u8; 80]) -> Call {
@@ -152,26 +154,24 @@ pub fn agrees(
     answered(got, head)
 }
 
+// Column, row and mode of the record are the call's.
+fn placed(transcript: &[u8], at: usize, head: &[u8; 80]) -> bool {
+    let call = call_of(head);
+    match parse_place(transcript, at, number_at(head, 4), number_at(head, 8)) {
+        PlaceAnswer::Skip(c, r, _) => (c == call.column) & (r == call.row) & (call.mode == 0),
+        PlaceAnswer::Coded(h, _) => {
+            (h.column == call.column) & (h.row == call.row) & (h.mode == call.mode)
+        }
+        PlaceAnswer::Refused(_) => false,
+    }
+}
+
 // Whether the record is read back to the call and to its end.
 fn parses(transcript: &[u8], head: &[u8; 80]) -> bool {
-    let mut vectors = [0i32; 32];
-    let mut levels = [0i32; 392];
     let at = short_at(head, 62);
-    match parse_record(
-        &mut vectors,
-        &mut levels,
-        transcript,
-        at,
-        number_at(head, 4),
-        number_at(head, 8),
-    ) {
-        ParseAnswer::Parsed(record, next) => {
-            (record.column == number_at(head, 12))
-                & (record.row == number_at(head, 16))
-                & (record.mode == number_at(head, 20))
-                & (next == end_of(head))
-        }
-        ParseAnswer::Refused(_) => false,
+    match check_record(transcript, at, number_at(head, 4), number_at(head, 8)) {
+        RecordAnswer::Record(next) => (next == end_of(head)) & placed(transcript, at, head),
+        RecordAnswer::Refused(_) => false,
     }
 }
 

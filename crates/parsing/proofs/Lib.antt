@@ -2,5 +2,4 @@ pub mod Reading
 pub mod Parsings
 pub mod Answers
 pub mod Short
-pub mod Answering
 pub mod Places

@@ -1,70 +1,66 @@
 -- A record read part by part: what each part's answer says of the whole.
 -- Assumes nothing.
 use mathlib.Core.Path.{_≡_, refl, sym, ap, subst, _∙_}
-use mathlib.Core.Bool.{Bool, true, false, _&&_}
 use mathlib.Core.List.{List}
 use Prim.Native.Nat.{ℕ, _+_, _*_, _≤_, _<_, _^_}
-use native.Mathlib.Nat.{add-assoc, add-zero}
+use native.Mathlib.Nat.{add-assoc}
 use native.Mathlib.Omega.{arith}
-use borrow.Author.Tests.{eq-eqb, ne-eqb, leb-true}
-use lib.Dec.{leb, ltb, eqb}
 use lib.IntN.{ℤ}
 use lib.ListN.{drop}
 use lib.Seq.{sets, drop-drop}
-use Rattle.ints.specs.Z.{if_then_else_}
 use Rattle.refusal.specs.Got.{Got, got, refused, after, andThen, mapGot}
 use Rattle.refusal.specs.declared.Refusal.{Refusal}
-use Rattle.refusal.specs.declared.Refusal.the-variants.{NumberForm, FieldRange}
 use Rattle.refusal.proofs.Formats.{got-value, got-count, never}
-use Rattle.number.specs.Number.{readNumber, numberAnswer}
+use Rattle.number.specs.Number.{numberAnswer}
 use Rattle.number.specs.declared.NumberAnswer.the-variants as number
 use Rattle.number.proofs.Answers.{number-answered, number-refused}
-use Rattle.number.proofs.Numbers.{refused-form}
 use Rattle.residual.specs.declared.svq3_coeff.ListAnswer.{ListAnswer}
 use Rattle.residual.specs.declared.svq3_coeff.ListAnswer.the-variants as list
 use Rattle.vectors.specs.Modes.{numMotionVectors}
-use Rattle.record.specs.Record.{Record, recordOf, noVectors, noLevels, placeHead, skipHead, skipRecord, withMotion, withResidual}
-use Rattle.record.specs.Parse.{field, readSigneds, parseItems, parseResidual, parseMotion, parseRecord}
+use Rattle.record.specs.Record.{Record, recordOf, noVectors, noLevels, withMotion, withResidual}
+use Rattle.record.specs.Parse.{field, readSigneds, parseItems, parseResidual, parseMotion}
 use Rattle.record.specs.Answers.{Left}
 use Rattle.record.specs.declared.Head.{Head}
-use Rattle.record.proofs.Turns.{when-true, when-false}
 use Rattle.record.proofs.Fields.{field-format}
-use Rattle.record.proofs.Records.{all-three}
 use Rattle.record.proofs.Answers.{ended, refused-by}
 use Rattle.parsing.specs.Answers.{parseAnswer, Parsing}
 use Rattle.parsing.specs.declared.parse.ParseAnswer.{ParseAnswer}
 use Rattle.parsing.specs.declared.parse.ParseAnswer.the-variants.{Parsed, Refused}
 
 -- ---- one part, then what follows it
-module _ {X : Type 0} (at : ℕ) (s : List ℕ) (g : Got X) (k : X → List ℕ → Got Record) where
-  answer-on : (n : ℕ) (b : Got Record) → parseAnswer at (after n b) ≡ parseAnswer (at + n) b
-  answer-on n (got r m) = ap (Parsed (r .head)) (sym (add-assoc at n m))
-  answer-on n (refused r) = refl
+answer-on : (at n : ℕ) (b : Got Record) → parseAnswer at (after n b) ≡ parseAnswer (at + n) b
+answer-on at n (got r m) = ap (Parsed (r .head)) (sym (add-assoc at n m))
+answer-on at n (refused r) = refl
 
-  pub on : (x : X) (n next : ℕ) (answer : ParseAnswer) (vs ls : List ℤ) → g ≡ got x n → next ≡ at + n → Parsing next (k x (drop next s)) answer vs ls → Parsing at (andThen g (drop at s) k) answer vs ls
+pub parsing-on : (at n next : ℕ) (b : Got Record) (answer : ParseAnswer) (vs ls : List ℤ) → next ≡ at + n → Parsing next b answer vs ls → Parsing at (after n b) answer vs ls
+parsing-on at n next b answer vs ls m p =
+    record {
+      answers = p .answers ∙ ap (λ (i : ℕ). parseAnswer i b) m ∙ sym (answer-on at n b);
+      leaves = left b refl;
+    }
+  where
+    left : (g : Got Record) → b ≡ g → (r : Record) (j : ℕ) → after n g ≡ got r j → (vs ≡ r .vectors) × (ls ≡ r .levels)
+    left (got q i) e r j f = subst (λ (o : Record). (vs ≡ o .vectors) × (ls ≡ o .levels)) (got-value f) (p .leaves q i e)
+    left (refused x) e r j f = never f
+
+module _ {X : Type 0} (at : ℕ) (s : List ℕ) (g : Got X) (k : X → List ℕ → Got Record) where
+  on : (x : X) (n next : ℕ) (answer : ParseAnswer) (vs ls : List ℤ) → g ≡ got x n → next ≡ at + n → Parsing next (k x (drop next s)) answer vs ls → Parsing at (andThen g (drop at s) k) answer vs ls
   on x n next answer vs ls e m p =
       let there : drop n (drop at s) ≡ drop next s = drop-drop n at s ∙ ap (λ (i : ℕ). drop i s) (sym m) in
       let whole : andThen g (drop at s) k ≡ after n (k x (drop next s)) = ap (λ (a : Got X). andThen a (drop at s) k) e ∙ ap (λ (u : List ℕ). after n (k x u)) there in
-      record {
-        answers = p .answers ∙ ap (λ (i : ℕ). parseAnswer i (k x (drop next s))) m ∙ sym (answer-on n (k x (drop next s))) ∙ ap (parseAnswer at) (sym whole);
-        leaves = λ r j f. left (k x (drop next s)) refl r j (sym whole ∙ f);
-      }
-    where
-      left : (b : Got Record) → k x (drop next s) ≡ b → (r : Record) (j : ℕ) → after n b ≡ got r j → (vs ≡ r .vectors) × (ls ≡ r .levels)
-      left (got q i) e r j f = subst (λ (o : Record). (vs ≡ o .vectors) × (ls ≡ o .levels)) (got-value f) (p .leaves q i e)
-      left (refused x) e r j f = never f
+      rw whole (parsing-on at n next (k x (drop next s)) answer vs ls m p)
 
-  pub off : (r : Refusal) (vs ls : List ℤ) → g ≡ refused r → Parsing at (andThen g (drop at s) k) (Refused r) vs ls
+  off : (r : Refusal) (vs ls : List ℤ) → g ≡ refused r → Parsing at (andThen g (drop at s) k) (Refused r) vs ls
   off r vs ls e =
       let whole : andThen g (drop at s) k ≡ refused r = ap (λ (a : Got X). andThen a (drop at s) k) e in
       record { answers = ap (parseAnswer at) (sym whole); leaves = λ o j f. never (sym whole ∙ f) }
 
 -- ---- numbers
 module _ (at : ℕ) (s : List ℕ) (g : Got ℕ) (k : ℕ → List ℕ → Got Record) where
-  pub number-on : (v next : ℕ) (answer : ParseAnswer) (vs ls : List ℤ) → number.Number v next ≡ numberAnswer at g → Parsing next (k v (drop next s)) answer vs ls → Parsing at (andThen g (drop at s) k) answer vs ls
+  number-on : (v next : ℕ) (answer : ParseAnswer) (vs ls : List ℤ) → number.Number v next ≡ numberAnswer at g → Parsing next (k v (drop next s)) answer vs ls → Parsing at (andThen g (drop at s) k) answer vs ls
   number-on v next answer vs ls e p = let a = number-answered at g v next e in on at s g k v (a .0) next answer vs ls (a .1) (a .2) p
 
-  pub number-off : (r : Refusal) (vs ls : List ℤ) → number.Refused r ≡ numberAnswer at g → Parsing at (andThen g (drop at s) k) (Refused r) vs ls
+  number-off : (r : Refusal) (vs ls : List ℤ) → number.Refused r ≡ numberAnswer at g → Parsing at (andThen g (drop at s) k) (Refused r) vs ls
   number-off r vs ls e = off at s g k r vs ls (number-refused at g r e)
 
 pub field-most : (at most : ℕ) (s : List ℕ) (v next : ℕ) → most < 2 ^ 32 → number.Number v next ≡ numberAnswer at (field most s) → v ≤ most
@@ -87,10 +83,10 @@ module _ (at : ℕ) (g : Got (List ℤ)) (h : Head) (vs left : List ℤ) where
       record { answers = ap (parseAnswer at) (sym whole); leaves = λ o n f. never (sym whole ∙ f) }
 
 -- ---- pattern, quantiser, levels
-abbrev pub behindQuantiser : Head → List ℤ → ℕ → ℕ → List ℕ → Got Record
+abbrev behindQuantiser : Head → List ℤ → ℕ → ℕ → List ℕ → Got Record
 behindQuantiser h vs pattern quantiser s = mapGot (recordOf (withResidual h pattern quantiser) vs) (parseItems 26 0 pattern noLevels s)
 
-abbrev pub behindPattern : Head → List ℤ → ℕ → List ℕ → Got Record
+abbrev behindPattern : Head → List ℤ → ℕ → List ℕ → Got Record
 behindPattern h vs pattern s = andThen (field 31 s) s (behindQuantiser h vs pattern)
 
 module _ (h : Head) (s : List ℕ) (at : ℕ) (vs left : List ℤ) where
@@ -136,13 +132,13 @@ stored-refused : (f : List ℤ → List ℤ) (g : Got (List ℤ)) (r : Refusal) 
 stored-refused f (got zs n) r e = absurd (let z : _≡_ {A = ℕ} 0 1 = cc in omega arith)
 stored-refused f (refused q) r e = ap refused (cc)
 
-abbrev pub behindVectors : Head → ℕ → ℕ → List ℤ → List ℕ → Got Record
+abbrev behindVectors : Head → ℕ → ℕ → List ℤ → List ℕ → Got Record
 behindVectors h precision clipped vectors s = parseResidual (withMotion h precision clipped) (sets noVectors 0 vectors) s
 
-abbrev pub behindClipped : Head → ℕ → ℕ → List ℕ → Got Record
+abbrev behindClipped : Head → ℕ → ℕ → List ℕ → Got Record
 behindClipped h precision clipped s = andThen (readSigneds (2 * numMotionVectors (h .mode)) s) s (behindVectors h precision clipped)
 
-abbrev pub behindPrecision : Head → ℕ → List ℕ → Got Record
+abbrev behindPrecision : Head → ℕ → List ℕ → Got Record
 behindPrecision h precision s = andThen (field (2 * numMotionVectors (h .mode)) s) s (behindClipped h precision)
 
 module _ (h : Head) (s : List ℕ) (at : ℕ) (vs ls : List ℤ) where

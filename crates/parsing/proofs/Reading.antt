@@ -9,8 +9,8 @@ use native.Mathlib.Omega.{arith}
 use borrow.Author.Tests.{le-leb, lt-leb}
 use lib.Dec.{leb}
 use lib.IntN.{ℤ, pos}
-use lib.ListN.{length, take, drop, set, length-set, replicate-append-replicate}
-use lib.Seq.{sets, drop-drop, take-all, take-suc-set, set-set}
+use lib.ListN.{length, drop, set, length-set}
+use lib.Seq.{sets, drop-drop, set-set}
 use Rattle.ints.specs.Z.{if_then_else_}
 use Rattle.refusal.specs.Got.{Got, got, refused, after, mapGot}
 use Rattle.refusal.specs.declared.Refusal.{Refusal}
@@ -106,13 +106,6 @@ module _ {out₀ : List ℤ} {first count : ℕ} {s : List ℕ} {at i p : ℕ} {
   take-ends h =
       let c : count - i ≡ 0 = omega arith in
       left-end at (mapGot (sets out₀ first) (readSigneds count (drop at s))) p (p - at + 0) out (t .is ∙ rw c) (omega (arith, t .on))
-
--- ---- zeros, stored one after another
-pub cleared : (out : List ℤ) (i : ℕ) → i < length out → take i out ≡ zeros i → take (i + 1) (set out i (pos 0)) ≡ zeros (i + 1)
-cleared out i h e = rw (add-one i) (take-suc-set out i (pos 0) h ∙ ap (λ (l : List ℤ). l ++ pos 0 ∷ []) e ∙ replicate-append-replicate i 1 (pos 0) ∙ ap zeros (add-one i))
-
-pub all-cleared : (out : List ℤ) (i n : ℕ) → length out ≡ n → i ≡ n → take i out ≡ zeros i → out ≡ zeros n
-all-cleared out i n e j p = sym (take-all i out (omega arith)) ∙ p ∙ ap zeros j
 
 -- ---- a list of levels: 0 at its first place, then its numbers from its start on
 placed : (ls : List ℤ) (place start : ℕ) (zs : List ℤ) → start ≤ 1 → 1 ≤ start + length zs → sets (set ls place (pos 0)) (place + start) zs ≡ sets ls place (zeros start ++ zs)

@@ -1,4 +1,4 @@
--- Bytes that are a number each: contracts of inner functions.
+-- Short numbers, which are one byte each, below 128: contracts of inner functions.
 -- Assumes nothing.
 use mathlib.Core.Path.{_≡_}
 use mathlib.Core.Bool.{Bool, true, _&&_}

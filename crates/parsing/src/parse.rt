@@ -8,10 +8,9 @@ ghost use lib.ListN.{length, take, drop};
 ghost use lib.Seq.{sets};
 ghost use Rattle.refusal.specs.Got.{mapGot};
 ghost use Rattle.number.specs.Number.{numberAnswer};
-ghost use Rattle.residual.specs.Levels.{zeros};
 ghost use Rattle.record.specs.Record.{noVectors, noLevels};
 ghost use Rattle.record.specs.Items.{itemPlace};
-ghost use Rattle.record.specs.Parse.{field, readSigneds, parseItem, parseItems, parseResidual, parseMotion, parseRecord};
+ghost use Rattle.record.specs.Parse.{field, readSigneds, parseItem, parseItems, parseResidual, parseMotion};
 ghost use Rattle.record.specs.Answers.{Left};
 ghost use Rattle.parsing.specs.Answers.{Parsing, placeAnswer};
 ghost use Rattle.parsing.specs.Place.{parsePlace};
@@ -32,6 +31,15 @@ use refusal::Refusal;
 use residual::svq3_coeff::ListAnswer;
 use vectors::svq3_mb::num_motion_vectors;
 
+// What stands at the start of a record: its place and mode. The last number of an answer is the place behind the mode.
+pub enum PlaceAnswer {
+    // column and row of a skip, which has nothing more
+    Skip(u32, u32, usize),
+    // the head of another record, filled as far as its mode
+    Coded(Head, usize),
+    Refused(Refusal),
+}
+
 pub enum ParseAnswer {
     // the numbers of a record, and the place after it
     Parsed(Head, usize),
@@ -39,7 +47,7 @@ pub enum ParseAnswer {
 }
 
 // A number that is at most `most`.
-pub fn read_field(bytes: &[u8], at: usize, most: u32) -> NumberAnswer
+fn read_field(bytes: &[u8], at: usize, most: u32) -> NumberAnswer
     ensures { λ r. ⌜ r ≡ numberAnswer at (field most (drop at (now (bytes .entry)))) ⌝ }
 {
     match read_number(bytes, at) {
@@ -52,6 +60,28 @@ pub fn read_field(bytes: &[u8], at: usize, most: u32) -> NumberAnswer
         }
         NumberAnswer::Refused(r) => NumberAnswer::Refused(r),
     }
+}
+
+// Column, row and mode of the record at a place, which may lie anywhere, also past the end.
+pub fn parse_place(bytes: &[u8], at: usize, cols: u32, rows: u32) -> PlaceAnswer
+    ensures { λ r. ⌜ r ≡ placeAnswer at (parsePlace cols rows (drop at (now (bytes .entry)))) ⌝ }
+{
+    let NumberAnswer::Number(column, p) = read_number(bytes, at) else {
+        return PlaceAnswer::Refused(Refusal::NumberForm);
+    };
+    let NumberAnswer::Number(row, q) = read_number(bytes, p) else {
+        return PlaceAnswer::Refused(Refusal::NumberForm);
+    };
+    let NumberAnswer::Number(mode, next) = read_number(bytes, q) else {
+        return PlaceAnswer::Refused(Refusal::NumberForm);
+    };
+    if (column < cols) & (row < rows) & (mode <= 7) {
+        if mode == 0 {
+            return PlaceAnswer::Skip(column, row, next);
+        }
+        return PlaceAnswer::Coded(place_head(column, row, mode), next);
+    }
+    PlaceAnswer::Refused(Refusal::FieldRange)
 }
 
 // `count` signed numbers, stored from the place `first` on.
@@ -86,7 +116,7 @@ fn wide(x: u8) -> u32
     x as u32
 }
 
-// Whether each of `count` bytes is a number by itself.
+// Whether each of `count` bytes is a short number: one byte by itself.
 fn all_short(bytes: &[u8], at: usize, count: usize) -> bool
     requires { ⌜ at + count ≤ length (now bytes) ⌝ }
     ensures { λ r. ⌜ r ≡ allShort (now (bytes .entry)) at count ⌝ }
@@ -100,8 +130,8 @@ fn all_short(bytes: &[u8], at: usize, count: usize) -> bool
     short
 }
 
-// Whether there are `count` bytes and each is a number by itself.
-pub fn short_at(bytes: &[u8], at: usize, count: usize) -> bool
+// Whether there are `count` bytes and each is a short number.
+fn short_at(bytes: &[u8], at: usize, count: usize) -> bool
     ensures { λ r. ⌜ r ≡ shortAt (now (bytes .entry)) at count ⌝ }
 {
     if bytes.len() < count {
@@ -214,7 +244,7 @@ fn parse_residual(levels: &mut [i32], bytes: &[u8], at: usize, head: Head) -> Pa
     }
 }
 
-// Precision, clipped count, vectors, and what follows, into slices of zeros.
+// What follows the mode of a record that is no skip, into slices of zeros: precision, clipped count, vectors, and the residual.
 pub fn parse_motion(
     vectors: &mut [i32],
     levels: &mut [i32],
@@ -243,75 +273,5 @@ pub fn parse_motion(
             NumberAnswer::Refused(r) => ParseAnswer::Refused(r),
         },
         NumberAnswer::Refused(r) => ParseAnswer::Refused(r),
-    }
-}
-
-fn clear(out: &mut [i32])
-    ensures { λ _. ⌜ now (out .exit) ≡ zeros (length (now (out .entry))) ⌝ }
-{
-    let mut i = 0;
-    while i < out.len() {
-        out[i] = 0;
-        i += 1;
-    }
-}
-
-// Column, row and mode of the record at a place, which may lie anywhere, also past the end.
-pub fn parse_place(bytes: &[u8], at: usize, cols: u32, rows: u32) -> ParseAnswer
-    ensures { λ r. ⌜ r ≡ placeAnswer at (parsePlace cols rows (drop at (now (bytes .entry)))) ⌝ }
-{
-    let NumberAnswer::Number(column, p) = read_number(bytes, at) else {
-        return ParseAnswer::Refused(Refusal::NumberForm);
-    };
-    let NumberAnswer::Number(row, q) = read_number(bytes, p) else {
-        return ParseAnswer::Refused(Refusal::NumberForm);
-    };
-    let NumberAnswer::Number(mode, next) = read_number(bytes, q) else {
-        return ParseAnswer::Refused(Refusal::NumberForm);
-    };
-    if (column < cols) & (row < rows) & (mode <= 7) {
-        return ParseAnswer::Parsed(place_head(column, row, mode), next);
-    }
-    ParseAnswer::Refused(Refusal::FieldRange)
-}
-
-// What follows the mode of a record that is no skip. What the two slices held does not matter.
-fn parse_coded(
-    vectors: &mut [i32],
-    levels: &mut [i32],
-    bytes: &[u8],
-    at: usize,
-    head: Head,
-) -> ParseAnswer
-    requires { ⌜ (length (now vectors) ≡ 32) × (length (now levels) ≡ 392) × (head .mode ≤ 7) ⌝ }
-    ensures { λ r. ⌜ Parsing at (parseMotion head (drop at (now (bytes .entry)))) r (now (vectors .exit)) (now (levels .exit)) ⌝ }
-{
-    clear(vectors);
-    clear(levels);
-    parse_motion(vectors, levels, bytes, at, head)
-}
-
-// The record at a place, which may lie anywhere, also past the end. What the two slices held does not matter.
-pub fn parse_record(
-    vectors: &mut [i32],
-    levels: &mut [i32],
-    bytes: &[u8],
-    at: usize,
-    cols: u32,
-    rows: u32,
-) -> ParseAnswer
-    requires { ⌜ (length (now vectors) ≡ 32) × (length (now levels) ≡ 392) ⌝ }
-    ensures { λ r. ⌜ Parsing at (parseRecord cols rows (drop at (now (bytes .entry)))) r (now (vectors .exit)) (now (levels .exit)) ⌝ }
-{
-    match parse_place(bytes, at, cols, rows) {
-        ParseAnswer::Parsed(head, next) => {
-            if head.mode == 0 {
-                clear(vectors);
-                clear(levels);
-                return ParseAnswer::Parsed(head, next);
-            }
-            parse_coded(vectors, levels, bytes, next, head)
-        }
-        ParseAnswer::Refused(r) => ParseAnswer::Refused(r),
     }
 }

@@ -1,29 +1,24 @@
 -- The lines of a transcript's records, a record at a time, and how long they are.
 -- Assumes nothing.
-use mathlib.Core.Path.{_≡_, refl, sym, ap, _∙_, subst}
+use mathlib.Core.Path.{_≡_, refl, sym, ap, _∙_}
 use mathlib.Core.List.{List, [], _∷_, _++_}
-use Prim.Native.Nat.{ℕ, suc, _+_, _-_, _*_, _≤_, _<_, _^_}
+use Prim.Native.Nat.{ℕ, _+_, _-_, _*_, _≤_, _<_, _^_}
 use native.Mathlib.Omega.{arith}
-use lib.IntN.{ℤ}
 use lib.ListN.{length, take, drop, length-drop, length-append}
-use Rattle.refusal.specs.Got.{Got, got, refused}
+use Rattle.refusal.specs.Got.{got}
 use Rattle.refusal.specs.declared.Refusal.{Refusal}
-use Rattle.refusal.proofs.Formats.{got-value, got-count, never, exactly}
-use Rattle.lists.proofs.Laws.{First, Next}
+use Rattle.refusal.proofs.Formats.{got-count, never, exactly}
+use Rattle.lists.proofs.Laws.{Next}
 use Rattle.record.specs.Record.{Record}
 use Rattle.record.specs.Write.{recordBytes}
 use Rattle.record.specs.Parse.{parseRecord}
-use Rattle.record.specs.declared.Head.{Head}
 use Rattle.record.proofs.Records.{record-format}
-use Rattle.record.proofs.Lengths.{record-some}
 use Rattle.transcript.specs.Answers.{Written}
-use Rattle.parsing.specs.Answers.{Parsing}
-use Rattle.parsing.specs.declared.parse.ParseAnswer.{ParseAnswer}
-use Rattle.parsing.specs.declared.parse.ParseAnswer.the-variants.{Parsed, Refused}
-use Rattle.parsing.proofs.Answers.{ParsedBy, parsed, parse-refused}
 use Rattle.transcript.proofs.Writing.{Still, still-all, still-more, still-fits, still-none}
 use Rattle.checking.specs.Records.{records}
-use Rattle.checking.proofs.Laws.{records-none, records-first, records-next}
+use Rattle.checking.specs.Check.{recordAnswer}
+use Rattle.checking.specs.declared.RecordAnswer.the-variants as one
+use Rattle.checking.proofs.Laws.{records-none, records-first, records-next, record-read, not-record}
 use Rattle.replay.specs.Recorded.{Recorded}
 use Rattle.lines.specs.Text.{hexBytes, hexLine, line, bitsLine}
 use Rattle.printing.specs.Print.{recordLines, linesOf, stopLines}
@@ -50,43 +45,41 @@ module _ {cols rows : ℕ} {t out₀ : List ℕ} {at : ℕ} {out : List ℕ} {p 
     next-record : Next (parseRecord cols rows) (records cols rows) t i (g .recorded .rs)
     next-record = records-next cols rows wide high t i (g .recorded .rs) (g .recorded .taken) lt (g .recorded .is)
 
-    module _ {a : ParseAnswer} {vs ls : List ℤ} (q : Parsing i (parseRecord cols rows (drop i t)) a vs ls) where
-      -- the transcript is in form
-      pub in-form : {A : Type 0} {why : Refusal} → a ≡ Refused why → A
-      in-form {why = why} e = never (sym (parse-refused i (parseRecord cols rows (drop i t)) why vs ls (rw e at q)) ∙ next-record .reads)
+    -- the transcript is in form
+    pub in-form : {A : Type 0} {why : Refusal} → one.Refused why ≡ recordAnswer i (parseRecord cols rows (drop i t)) → A
+    in-form {why = why} e = never (sym (not-record i (parseRecord cols rows (drop i t)) why e) ∙ next-record .reads)
 
-      module _ {h : Head} {next : ℕ} (e : a ≡ Parsed h next) where
-        by : ParsedBy i (parseRecord cols rows (drop i t)) h next vs ls
-        by = parsed i (parseRecord cols rows (drop i t)) h next vs ls (rw e at q)
+    module _ {next : ℕ} (e : one.Record next ≡ recordAnswer i (parseRecord cols rows (drop i t))) where
+      next-is : next ≡ i + next-record .k
+      next-is =
+          let r = record-read i (parseRecord cols rows (drop i t)) next e in
+          r .3 ∙ ap (λ (n : ℕ). i + n) (got-count (sym (r .2) ∙ next-record .reads))
 
-        next-is : next ≡ i + next-record .k
-        next-is = by .moved ∙ ap (λ (n : ℕ). i + n) (got-count (sym (by .is) ∙ next-record .reads))
+      pub further : i < next
+      further = omega (arith, next-is, next-record .some)
 
-        pub further : i < next
-        further = omega (arith, next-is, next-record .some)
+      pub there : next ≤ length t
+      there = omega (arith, next-is, next-record .there)
 
-        pub there : next ≤ length t
-        there = omega (arith, next-is, next-record .there)
+      -- the bytes between are the record's
+      bytes-are : take (next - i) (drop i t) ≡ recordBytes (next-record .x)
+      bytes-are =
+          let n : next - i ≡ next-record .k = omega (arith, next-is) in
+          rw n (exactly (record-format cols rows wide high) (drop i t) (next-record .x) (next-record .k) .0 (next-record .reads) .2)
 
-        -- the bytes between are the record's
-        bytes-are : take (next - i) (drop i t) ≡ recordBytes (next-record .x)
-        bytes-are =
-            let n : next - i ≡ next-record .k = omega (arith, next-is) in
-            rw n (exactly (record-format cols rows wide high) (drop i t) (next-record .x) (next-record .k) .0 (next-record .reads) .2)
+      lines-are : recordLines (g .recorded .rs) ≡ hexLine (take (next - i) (drop i t)) ++ recordLines (next-record .rest)
+      unfolding recordLines
+      lines-are = ap recordLines (next-record .is) ∙ rw bytes-are
 
-        lines-are : recordLines (g .recorded .rs) ≡ hexLine (take (next - i) (drop i t)) ++ recordLines (next-record .rest)
-        unfolding recordLines
-        lines-are = ap recordLines (next-record .is) ∙ rw bytes-are
+      pub fits : at + length (linesOf (records cols rows t)) ≤ length out₀ → p + length (hexLine (take (next - i) (drop i t))) ≤ length out
+      fits = still-fits (g .still) (hexLine (take (next - i) (drop i t))) (recordLines (next-record .rest)) lines-are
 
-        pub fits : at + length (linesOf (records cols rows t)) ≤ length out₀ → p + length (hexLine (take (next - i) (drop i t))) ≤ length out
-        fits = still-fits (g .still) (hexLine (take (next - i) (drop i t))) (recordLines (next-record .rest)) lines-are
-
-        pub on : {p′ : ℕ} {out′ : List ℕ} → Written out p (hexLine (take (next - i) (drop i t))) p′ out′ → Going cols rows t out₀ at out′ p′ next
-        on w =
-            record {
-              recorded = record { rs = next-record .rest; taken = next-record .m; is = ap (λ (n : ℕ). records cols rows (drop n t)) next-is ∙ next-record .behind };
-              still = still-more (g .still) {a = hexLine (take (next - i) (drop i t))} lines-are w;
-            }
+      pub on : {p′ : ℕ} {out′ : List ℕ} → Written out p (hexLine (take (next - i) (drop i t))) p′ out′ → Going cols rows t out₀ at out′ p′ next
+      on w =
+          record {
+            recorded = record { rs = next-record .rest; taken = next-record .m; is = ap (λ (n : ℕ). records cols rows (drop n t)) next-is ∙ next-record .behind };
+            still = still-more (g .still) {a = hexLine (take (next - i) (drop i t))} lines-are w;
+          }
 
 -- ---- how long they are: a record has a byte at least, so three characters a byte are enough
 hex-length : (bytes : List ℕ) → length (hexBytes bytes) ≡ 2 * length bytes

@@ -11,6 +11,8 @@ ghost use Rattle.replay.specs.Recorded.{Recorded};
 ghost use Rattle.header.specs.Header.{HeaderRange};
 ghost use Rattle.lines.specs.Text.{bitsLine};
 ghost use Rattle.printing.specs.Print.{start, room, linesOf, stopLines, printedRun, printed};
+use checking::RecordAnswer;
+use checking::check_record;
 use header::Header;
 use header::HeaderAnswer;
 use header::ListEnd;
@@ -20,8 +22,6 @@ use header::read_list;
 use lines::text::put_bits;
 use lines::text::put_hex_line;
 use lines::text::put_refused;
-use parsing::parse::ParseAnswer;
-use parsing::parse::parse_record;
 use report::Report;
 use report::Stop;
 use run::run::run;
@@ -32,20 +32,10 @@ fn put_records(out: &mut [u8], transcript: &[u8], at: usize, cols: u32, rows: u3
     requires { ⌜ at + length (linesOf (records cols rows (now transcript))) ≤ length (now out) ⌝ }
     ensures { λ r. ⌜ Written (now (out .entry)) at (linesOf (records cols rows (now (transcript .entry)))) r (now (out .exit)) ⌝ }
 {
-    // each record is read into these and forgotten
-    let mut vectors = [0i32; 32];
-    let mut levels = [0i32; 392];
     let mut p = at;
     let mut i = 0;
     while i < transcript.len() {
-        let ParseAnswer::Parsed(_, next) = parse_record(
-            &mut vectors,
-            &mut levels,
-            transcript,
-            i,
-            cols,
-            rows,
-        ) else {
+        let RecordAnswer::Record(next) = check_record(transcript, i, cols, rows) else {
             return p;
         };
         p = put_hex_line(out, &transcript[i..next], p);

@@ -1,16 +1,16 @@
 -- One record: none is there, a skip, or another one.
 -- Assumes nothing.
-use mathlib.Core.Path.{_≡_, refl, sym, ap, _∙_}
-use mathlib.Core.List.{List, []}
-use Prim.Native.Nat.{ℕ, _+_, _*_, _≤_, _<_}
+use mathlib.Core.Path.{_≡_, sym, ap, _∙_}
+use mathlib.Core.List.{List}
+use Prim.Native.Nat.{ℕ, _+_, _≤_, _<_}
 use native.Mathlib.Omega.{arith}
 use lib.IntN.{ℤ}
 use lib.ListN.{drop}
 use Rattle.ints.specs.Z.{if_then_else_}
-use Rattle.refusal.specs.Got.{Got, got}
+use Rattle.refusal.specs.Got.{Got, got, refused}
 use Rattle.refusal.proofs.Formats.{got-value, got-count, never}
 use Rattle.refusal.specs.declared.Refusal.{Refusal}
-use Rattle.record.specs.Record.{Record, recordOf, noVectors, noLevels, skipRecord}
+use Rattle.record.specs.Record.{Record, recordOf, skipRecord}
 use Rattle.record.specs.Parse.{parseMotion, parseRecord}
 use Rattle.record.specs.Range.{RecordRange}
 use Rattle.record.specs.declared.Head.{Head}
@@ -20,8 +20,9 @@ use Rattle.parsing.specs.Answers.{placeAnswer, Parsing}
 use Rattle.parsing.specs.Place.{parsePlace}
 use Rattle.parsing.specs.declared.parse.ParseAnswer.{ParseAnswer}
 use Rattle.parsing.specs.declared.parse.ParseAnswer.the-variants.{Parsed, Refused}
-use Rattle.parsing.proofs.Answers.{parsed, parse-refused}
-use Rattle.parsing.proofs.Places.{PlaceRange, placed-range, not-parsed, skip-is, skip-parsed, coded-parsed}
+use Rattle.parsing.specs.declared.parse.PlaceAnswer.the-variants as place
+use Rattle.parsing.proofs.Answers.{ParsedBy, parsed, parse-refused}
+use Rattle.parsing.proofs.Places.{not-read, skip-read, coded-read, coded-parsed}
 use Rattle.apply.specs.Apply.{appliedLuma, appliedChroma, appliedField}
 use Rattle.outcome.specs.State.{State, fieldOf}
 use Rattle.outcome.specs.Decode.{applied, quantiserAfter}
@@ -33,55 +34,45 @@ module _ (s : State) (bytes : List ℕ) (at : ℕ) where
   read = parseRecord (s .cols) (s .rows) (drop at bytes)
 
   -- none is there
-  none : {vs ls : List ℤ} (why : Refusal) → Parsing at read (Refused why) vs ls → (next : ℕ) (t : State) → Stepped read at next s t
-  none {vs} {ls} why p next t =
-      let e = parse-refused at read why vs ls p in
-      record { moved = λ r n f. never (sym e ∙ f); leaves = λ r n f. never (sym e ∙ f) }
+  none : (why : Refusal) → read ≡ refused why → (next : ℕ) (t : State) → Stepped read at next s t
+  none why e next t = record { moved = λ r n f. never (sym e ∙ f); leaves = λ r n f. never (sym e ∙ f) }
 
-  pub no-place : (why : Refusal) → Refused why ≡ placeAnswer at (parsePlace (s .cols) (s .rows) (drop at bytes)) → (next : ℕ) (t : State) → Stepped (parseRecord (s .cols) (s .rows) (drop at bytes)) at next s t
-  no-place why e = none why (not-parsed (s .cols) (s .rows) bytes at why e [] [])
+  pub no-place : (why : Refusal) → place.Refused why ≡ placeAnswer at (parsePlace (s .cols) (s .rows) (drop at bytes)) → (next : ℕ) (t : State) → Stepped (parseRecord (s .cols) (s .rows) (drop at bytes)) at next s t
+  no-place why e = none why (not-read (s .cols) (s .rows) bytes at why e)
 
-  module _ (h : Head) (next : ℕ) (e : Parsed h next ≡ placeAnswer at (parsePlace (s .cols) (s .rows) (drop at bytes))) where
-    pub in-place : PlaceRange (s .cols) (s .rows) h
-    in-place = placed-range (s .cols) (s .rows) bytes at h next e
+  -- one is
+  done : (x : Record) (k next : ℕ) → read ≡ got x k → next ≡ at + k → (t : State) → t ≡ applied s x → Stepped read at next s t
+  done x k next e m t w = record { moved = λ r n f. m ∙ ap (λ (j : ℕ). at + j) (got-count (sym e ∙ f)); leaves = λ r n f. w ∙ ap (applied s) (got-value (sym e ∙ f)) }
 
-    done : {o : Head} {end : ℕ} {vs ls : List ℤ} → Parsing at read (Parsed o end) vs ls → (t : State) → t ≡ applied s (recordOf o vs ls) → Stepped read at end s t
-    done {o} {end} {vs} {ls} p t w =
-        let b = parsed at read o end vs ls p in
-        record {
-          moved = λ r n f. b .moved ∙ ap (λ (m : ℕ). at + m) (got-count (sym (b .is) ∙ f));
-          leaves = λ r n f. w ∙ ap (applied s) (got-value (sym (b .is) ∙ f));
-        }
+  -- a skip
+  pub skip-step : (column row next : ℕ) → place.Skip column row next ≡ placeAnswer at (parsePlace (s .cols) (s .rows) (drop at bytes)) → (t : State) → t ≡ applied s (skipRecord column row)
+      → Stepped (parseRecord (s .cols) (s .rows) (drop at bytes)) at next s t
+  skip-step column row next e = let r = skip-read (s .cols) (s .rows) bytes at column row next e in done (skipRecord column row) (r .taken) next (r .is) (r .moved)
 
-    -- a skip
-    pub skip-step : h .mode ≡ 0 → (t : State) → t ≡ applied s (skipRecord (h .column) (h .row)) → Stepped (parseRecord (s .cols) (s .rows) (drop at bytes)) at next s t
-    unfolding skipRecord
-    skip-step z t w =
-        done (skip-parsed (s .cols) (s .rows) bytes at h next e z noVectors noLevels refl refl) t
-        (w ∙ ap (λ (x : Head). applied s (recordOf x noVectors noLevels)) (sym (skip-is (s .cols) (s .rows) bytes at h next e z)))
+  -- another one, whose motion was read
+  module _ (h : Head) (next : ℕ) (e : place.Coded h next ≡ placeAnswer at (parsePlace (s .cols) (s .rows) (drop at bytes))) (a : ParseAnswer) (vs ls : List ℤ) (p : Parsing next (parseMotion h (drop next bytes)) a vs ls) where
+    whole-is : Parsing at read a vs ls
+    whole-is = coded-parsed (s .cols) (s .rows) bytes at h next e a vs ls p
 
-    -- another one, whose motion was read
-    module _ (z : 0 < h .mode) (a : ParseAnswer) (vs ls : List ℤ) (p : Parsing next (parseMotion h (drop next bytes)) a vs ls) where
-      whole-is : Parsing at read a vs ls
-      whole-is = coded-parsed (s .cols) (s .rows) bytes at h next e (λ m. omega arith) a vs ls p
+    pub no-motion : (why : Refusal) → a ≡ Refused why → (end : ℕ) (t : State) → Stepped (parseRecord (s .cols) (s .rows) (drop at bytes)) at end s t
+    no-motion why i = none why (parse-refused at read why vs ls (rw i at whole-is))
 
-      pub no-motion : (why : Refusal) → a ≡ Refused why → (end : ℕ) (t : State) → Stepped (parseRecord (s .cols) (s .rows) (drop at bytes)) at end s t
-      no-motion why i = none why (rw i at whole-is)
+    module _ (o : Head) (end : ℕ) (i : a ≡ Parsed o end) where
+      by : ParsedBy at read o end vs ls
+      by = parsed at read o end vs ls (rw i at whole-is)
 
-      module _ (o : Head) (end : ℕ) (i : a ≡ Parsed o end) where
-        pub coded-range : s .cols ≤ 4096 → s .rows ≤ 4096 → RecordRange (s .cols) (s .rows) (recordOf o vs ls)
-        coded-range wide high =
-            let b = parsed at read o end vs ls (rw i at whole-is) in
-            record-format (s .cols) (s .rows) wide high .came (drop at bytes) (recordOf o vs ls) (b .taken) (b .is) .in-range
+      pub coded-range : s .cols ≤ 4096 → s .rows ≤ 4096 → RecordRange (s .cols) (s .rows) (recordOf o vs ls)
+      coded-range wide high = record-format (s .cols) (s .rows) wide high .came (drop at bytes) (recordOf o vs ls) (by .taken) (by .is) .in-range
 
-        pub no-skip : 0 < o .mode
-        no-skip =
-            let b = parsed next (parseMotion h (drop next bytes)) o end vs ls (rw i at p) in
-            let k = motion-format h (used-most (h .mode) (in-place .mode)) .came (drop next bytes) (recordOf o vs ls) (b .taken) (b .is) .in-range in
-            omega (arith, ap (λ (x : Head). x .mode) (k .rest .head))
+      pub no-skip : 0 < o .mode
+      no-skip =
+          let c = coded-read (s .cols) (s .rows) bytes at h next e in
+          let b = parsed next (parseMotion h (drop next bytes)) o end vs ls (rw i at p) in
+          let k = motion-format h (used-most (h .mode) (c .range .mode)) .came (drop next bytes) (recordOf o vs ls) (b .taken) (b .is) .in-range in
+          omega (arith, ap (λ (x : Head). x .mode) (k .rest .head), c .coded)
 
-        pub coded-step : (t : State) → t ≡ applied s (recordOf o vs ls) → Stepped (parseRecord (s .cols) (s .rows) (drop at bytes)) at end s t
-        coded-step = done (rw i at whole-is)
+      pub coded-step : (t : State) → t ≡ applied s (recordOf o vs ls) → Stepped (parseRecord (s .cols) (s .rows) (drop at bytes)) at end s t
+      coded-step = done (recordOf o vs ls) (by .taken) end (by .is) (by .moved)
 
 -- the work of a record that is no skip, list by list
 pub applied-is : (s : State) (r : Record) {y cb cr : List ℕ} {mv : List ℤ} {marks : List ℕ}

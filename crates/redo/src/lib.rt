@@ -1,6 +1,6 @@
 // One record of a transcript, its work done again.
 ghost use mathlib.Core.Path.{_≡_};
-ghost use Prim.Native.Nat.{_*_, _≤_, _<_};
+ghost use Prim.Native.Nat.{_*_, _≤_};
 ghost use lib.ListN.{length, drop};
 ghost use Rattle.picture.specs.Picture.{Sized, cellCount};
 ghost use Rattle.record.specs.Parse.{parseRecord};
@@ -12,6 +12,7 @@ use apply::applied::apply_coded;
 use apply::applied::apply_skip;
 use outcome::Frame;
 use parsing::parse::ParseAnswer;
+use parsing::parse::PlaceAnswer;
 use parsing::parse::parse_motion;
 use parsing::parse::parse_place;
 use record::Head;
@@ -39,7 +40,7 @@ fn replay_coded(
     head: Head,
     next: usize,
 ) -> Step
-    requires { ⌜ (frame .cols ≤ 4096) × (frame .rows ≤ 4096) × (ParseAnswer.Parsed head next ≡ placeAnswer at (parsePlace (frame .cols) (frame .rows) (drop at (now bytes)))) × (0 < head .mode) ⌝ }
+    requires { ⌜ (frame .cols ≤ 4096) × (frame .rows ≤ 4096) × (PlaceAnswer.Coded head next ≡ placeAnswer at (parsePlace (frame .cols) (frame .rows) (drop at (now bytes)))) ⌝ }
     requires { ⌜ Sized (frame .cols) (frame .rows) (length (now y)) (length (now cb)) (length (now cr)) × Sized (frame .cols) (frame .rows) (length (now ry)) (length (now rcb)) (length (now rcr)) × (length (now mv) ≡ 2 * cellCount (frame .cols) (frame .rows)) × (length (now marks) ≡ cellCount (frame .cols) (frame .rows)) ⌝ }
     ensures { λ r. ⌜ Stepped (parseRecord (frame .cols) (frame .rows) (drop at (now (bytes .entry)))) at (r .next) (stateOf frame quantiser (now (ry .entry)) (now (rcb .entry)) (now (rcr .entry)) (now (y .entry)) (now (cb .entry)) (now (cr .entry)) (now (mv .entry)) (now (marks .entry))) (stateOf frame (r .quantiser) (now (ry .entry)) (now (rcb .entry)) (now (rcr .entry)) (now (y .exit)) (now (cb .exit)) (now (cr .exit)) (now (mv .exit)) (now (marks .exit))) ⌝ }
 {
@@ -89,14 +90,25 @@ pub fn replay_record(
     requires { ⌜ Sized (frame .cols) (frame .rows) (length (now y)) (length (now cb)) (length (now cr)) × Sized (frame .cols) (frame .rows) (length (now ry)) (length (now rcb)) (length (now rcr)) × (length (now mv) ≡ 2 * cellCount (frame .cols) (frame .rows)) × (length (now marks) ≡ cellCount (frame .cols) (frame .rows)) ⌝ }
     ensures { λ r. ⌜ Stepped (parseRecord (frame .cols) (frame .rows) (drop at (now (bytes .entry)))) at (r .next) (stateOf frame quantiser (now (ry .entry)) (now (rcb .entry)) (now (rcr .entry)) (now (y .entry)) (now (cb .entry)) (now (cr .entry)) (now (mv .entry)) (now (marks .entry))) (stateOf frame (r .quantiser) (now (ry .entry)) (now (rcb .entry)) (now (rcr .entry)) (now (y .exit)) (now (cb .exit)) (now (cr .exit)) (now (mv .exit)) (now (marks .exit))) ⌝ }
 {
-    let ParseAnswer::Parsed(head, next) = parse_place(bytes, at, frame.cols, frame.rows) else {
-        return Step {
-            quantiser,
-            next: at,
-        };
-    };
-    if head.mode == 0 {
-        apply_skip(
+    match parse_place(bytes, at, frame.cols, frame.rows) {
+        PlaceAnswer::Skip(column, row, next) => {
+            apply_skip(
+                y,
+                cb,
+                cr,
+                mv,
+                marks,
+                ry,
+                rcb,
+                rcr,
+                frame.cols as usize,
+                frame.rows as usize,
+                column as usize,
+                row as usize,
+            );
+            Step { quantiser, next }
+        }
+        PlaceAnswer::Coded(head, next) => replay_coded(
             y,
             cb,
             cr,
@@ -105,27 +117,16 @@ pub fn replay_record(
             ry,
             rcb,
             rcr,
-            frame.cols as usize,
-            frame.rows as usize,
-            head.column as usize,
-            head.row as usize,
-        );
-        return Step { quantiser, next };
+            bytes,
+            frame,
+            quantiser,
+            at,
+            head,
+            next,
+        ),
+        PlaceAnswer::Refused(_) => Step {
+            quantiser,
+            next: at,
+        },
     }
-    replay_coded(
-        y,
-        cb,
-        cr,
-        mv,
-        marks,
-        ry,
-        rcb,
-        rcr,
-        bytes,
-        frame,
-        quantiser,
-        at,
-        head,
-        next,
-    )
 }

@@ -1,10 +1,8 @@
 -- Bytes written one part after another: what a loop still has to write, and the parts of numbers and lists.
 -- Assumes nothing.
 use mathlib.Core.Path.{_≡_, refl, sym, ap, _∙_}
-use mathlib.Core.Bool.{true, false}
 use mathlib.Core.List.{List, [], _∷_, _++_, append-assoc, append-nil}
 use Prim.Native.Nat.{ℕ, suc, _+_, _-_, _*_, _≤_, _<_}
-use native.Mathlib.Numerals.{add-one}
 use native.Mathlib.Omega.{arith}
 use borrow.Author.Tests.{ne-eqb}
 use lib.Dec.{eqb}
@@ -13,8 +11,7 @@ use lib.ListN.{length, getD, take, drop, length-append}
 use lib.Seq.{sets, length-sets, drop-cons, drop-drop, take-add}
 use Rattle.ints.specs.Z.{if_then_else_}
 use Rattle.number.specs.Number.{number}
-use Rattle.number.specs.SignedNumber.{sent, signedNumber}
-use Rattle.number.proofs.Numbers.{number-length}
+use Rattle.number.specs.SignedNumber.{signedNumber}
 use Rattle.residual.specs.Book.{positions}
 use Rattle.residual.specs.Pattern.{classOf}
 use Rattle.residual.specs.declared.svq3_coeff.ResidualBook.{ResidualBook}
@@ -63,24 +60,6 @@ module _ {out₀ : List ℕ} {at : ℕ} {bytes out : List ℕ} {p : ℕ} {rest :
   -- the part has room
   pub still-fits : (a b : List ℕ) → rest ≡ a ++ b → at + length bytes ≤ length out₀ → p + length a ≤ length out
   still-fits a b e h = omega (arith, s .moved, s .same, ap length e ∙ length-append a b)
-
-  -- and a byte behind it, where there is one to write
-  pub still-fits-more : (a b : List ℕ) → rest ≡ a ++ b → 0 < length b → at + length bytes ≤ length out₀ → p + length a < length out
-  still-fits-more a b e k h = omega (arith, s .moved, s .same, ap length e ∙ length-append a b)
-
-  -- a part of it is written, and perhaps one byte behind it, which is still to be written
-  pub still-ahead : (a : List ℕ) {b : List ℕ} {next : ℕ} {left : List ℕ} → rest ≡ a ++ b → 0 < length b → next ≡ p + length a → ((x : ℕ) (more : List ℕ) → sets left next (x ∷ more) ≡ sets out p (a ++ x ∷ more)) → length left ≡ length out
-      → Still out₀ at bytes left next b
-  still-ahead a {b} {next} {left} e h w l n =
-      record {
-        moved = omega (arith, s .moved, ap length e ∙ length-append a b);
-        leaves = over b h ∙ ap (sets out p) (sym e) ∙ s .leaves;
-        same = n ∙ s .same;
-      }
-    where
-      over : (b : List ℕ) → 0 < length b → sets left next b ≡ sets out p (a ++ b)
-      over [] h = absurd (omega arith)
-      over (x ∷ b) h = l x b
 
   -- all of it has room, and is written
   pub still-room : at + length bytes ≤ length out₀ → p + length rest ≤ length out
@@ -173,16 +152,6 @@ module _ (book : ResidualBook) (start : ℕ) (ls : List ℤ) where
   no-list place count i h =
       let e : count - i ≡ 0 = omega arith in
       rw e
-
-  -- a list has a byte at least
-  pub some-list : (place count : ℕ) → start < positions book → place + start < length ls → 0 < count → 0 < length (sideBytes book start count place ls)
-  unfolding sideBytes signedNumbers signedNumber
-  some-list place count h k z =
-      let v = getD ls (place + start) (pos 0) in
-      let c : count ≡ suc (count - 1) = omega arith in
-      let n : positions book - start ≡ suc (positions book - start - 1) = omega arith in
-      rw (c, n, drop-cons ls (place + start) (pos 0) k)
-      (omega (arith, number-length (sent v) .0, length-append (signedNumber v) (signedNumbers (take (positions book - start - 1) (drop (suc (place + start)) ls))), length-append (signedNumber v ++ signedNumbers (take (positions book - start - 1) (drop (suc (place + start)) ls))) (sideBytes book start (count - 1) (place + positions book) ls)))
 
 -- Cb DC and Cr DC are eight numbers in a row
 pub both-dc : (ls : List ℤ) → sideBytes ChromaDc 0 2 256 ls ≡ signedNumbers (take 8 (drop 256 ls))

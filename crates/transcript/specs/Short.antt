@@ -1,40 +1,29 @@
--- Numbers that are one byte each, -64 to 63: contracts of inner functions.
+-- Short numbers, -64 to 63, which are sent as one byte each: contracts of inner functions.
 -- Assumes nothing.
 use mathlib.Core.Path.{_≡_}
 use mathlib.Core.Bool.{Bool, true, _&&_}
 use mathlib.Core.List.{List}
 use Prim.Native.Nat.{ℕ, zero, suc, _+_, _-_, _*_, _%_, _<_, min}
-use lib.Dec.{eqb, leb, ltb}
+use lib.Dec.{leb, ltb}
 use lib.IntN.{ℤ, pos, negsuc}
-use lib.ListN.{length, getD, take, drop}
-use lib.Seq.{sets}
+use lib.ListN.{length, getD}
 use Rattle.ints.specs.Z.{if_then_else_}
-use Rattle.record.specs.Write.{signedNumbers}
 
 -- z held in -128 to 127, and counted from -128 on; `negsuc n` is -(n + 1)
-unfoldable pub nearOf : ℤ → ℕ
-nearOf (pos n) = 128 + min n 127
-nearOf (negsuc n) = 127 - n
+unfoldable pub heldOf : ℤ → ℕ
+heldOf (pos n) = 128 + min n 127
+heldOf (negsuc n) = 127 - n
 
--- what z is sent as, by `nearOf z`, where z is -64 to 63
-unfoldable pub sentNear : ℕ → ℕ
-sentNear near = if ltb (2 * (near % 128)) 128 then 2 * (near % 128) else 255 - 2 * (near % 128)
+-- what a short z is sent as, by `heldOf z`
+unfoldable pub sentShort : ℕ → ℕ
+sentShort held = if ltb (2 * (held % 128)) 128 then 2 * (held % 128) else 255 - 2 * (held % 128)
 
--- each of the first n is that of a number from -64 to 63
-unfoldable pub allNear : List ℕ → ℕ → Bool
-allNear t zero = true
-allNear t (suc n) = (allNear t n && leb 64 (getD t n 0)) && ltb (getD t n 0) 192
+-- each of the first n is `heldOf` of a short number
+unfoldable pub allShort : List ℕ → ℕ → Bool
+allShort t zero = true
+allShort t (suc n) = (allShort t n && leb 64 (getD t n 0)) && ltb (getD t n 0) 192
 
--- t has `nearOf` of n numbers from `first` on
-pub record Near (l : List ℤ) (first n : ℕ) (t : List ℕ) : Type 0 where
+-- t has `heldOf` of n numbers from `first` on
+pub record Held (l : List ℤ) (first n : ℕ) (t : List ℕ) : Type 0 where
   pub size : length t ≡ 16
-  pub each : (k : ℕ) → k < n → getD t k 0 ≡ nearOf (getD l (first + k) (pos 0))
-
--- how many numbers from `first` on are stored where n are to be written: the one behind them too if the n + 1 are a byte each
-unfoldable pub storedCount : List ℤ → ℕ → ℕ → ℕ
-storedCount numbers first n = if eqb (length (signedNumbers (take (n + 1) (drop first numbers)))) (n + 1) then n + 1 else n
-
--- n numbers from `first` on, written to `out` from a place on: the place after them, and what `out` holds then
-pub record Ahead (out : List ℕ) (at : ℕ) (numbers : List ℤ) (first n next : ℕ) (left : List ℕ) : Type 0 where
-  pub moved : next ≡ at + length (signedNumbers (take n (drop first numbers)))
-  pub leaves : left ≡ sets out at (signedNumbers (take (storedCount numbers first n) (drop first numbers)))
+  pub each : (k : ℕ) → k < n → getD t k 0 ≡ heldOf (getD l (first + k) (pos 0))

@@ -8,7 +8,7 @@ ghost use Rattle.record.specs.Write.{signedNumbers, itemsBytes, restBytes, reco
 ghost use Rattle.record.specs.Sides.{sideBytes};
 ghost use Rattle.record.specs.Record.{recordOf, skipRecord};
 ghost use Rattle.transcript.specs.Answers.{Written};
-ghost use Rattle.transcript.specs.Short.{nearOf, sentNear, allNear, Near, Ahead};
+ghost use Rattle.transcript.specs.Short.{heldOf, sentShort, allShort, Held};
 ghost use Rattle.record.specs.Range.{HeadRange};
 use ints::clamp_i32;
 use number::put_number;
@@ -40,39 +40,39 @@ fn put_signed_numbers(
 }
 
 // A number held in -128 to 127, and counted from -128 on.
-fn near_of(v: i32) -> u8
-    ensures { λ r. ⌜ r ≡ nearOf v ⌝ }
+fn held_of(v: i32) -> u8
+    ensures { λ r. ⌜ r ≡ heldOf v ⌝ }
 {
     (clamp_i32(v, -128, 127) + 128) as u8
 }
 
-// What a number from -64 to 63 is sent as, by its `near_of`.
-fn sent_near(near: u8) -> u8
-    ensures { λ r. ⌜ r ≡ sentNear near ⌝ }
+// What a short number is sent as, by its `held_of`. Numbers from -64 to 63 are short: one byte each.
+fn sent_short(held: u8) -> u8
+    ensures { λ r. ⌜ r ≡ sentShort held ⌝ }
 {
-    let twice = 2 * (near % 128);
+    let twice = 2 * (held % 128);
     if twice < 128 { twice } else { 255 - twice }
 }
 
-// `near_of` of `count` numbers from the place `first` on: the first of sixteen. Each is a byte, so that the compiler has sixteen in a register.
-fn take_near(numbers: &[i32], first: usize, count: usize) -> [u8; 16]
+// `held_of` of `count` numbers from the place `first` on: the first of sixteen. Each is a byte, so that the compiler has sixteen in a register.
+fn take_held(numbers: &[i32], first: usize, count: usize) -> [u8; 16]
     requires { ⌜ (count ≤ 16) × (first + count ≤ length (now numbers)) ⌝ }
-    ensures { λ r. ⌜ Near (now (numbers .entry)) first count r ⌝ }
+    ensures { λ r. ⌜ Held (now (numbers .entry)) first count r ⌝ }
 {
     let mut t = [0u8; 16];
     let mut i = 0;
     while i < count {
         let v = numbers[first + i];
-        t[i] = near_of(v);
+        t[i] = held_of(v);
         i += 1;
     }
     t
 }
 
-// Whether each of the first `count` is a byte by itself, as numbers from -64 to 63 are.
+// Whether each of the first `count` is that of a short number.
 fn all_short(t: &[u8; 16], count: usize) -> bool
     requires { ⌜ count ≤ 16 ⌝ }
-    ensures { λ r. ⌜ r ≡ allNear (now (t .entry)) count ⌝ }
+    ensures { λ r. ⌜ r ≡ allShort (now (t .entry)) count ⌝ }
 {
     let mut short = true;
     let mut i = 0;
@@ -85,11 +85,11 @@ fn all_short(t: &[u8; 16], count: usize) -> bool
 
 fn put_short(out: &mut [u8], t: &[u8; 16], at: usize, count: usize)
     requires { ⌜ (count ≤ 16) × (length (now t) ≡ 16) × (at + count ≤ length (now out)) ⌝ }
-    ensures { λ _. ⌜ now (out .exit) ≡ sets (now (out .entry)) at (take count (map sentNear (now (t .entry)))) ⌝ }
+    ensures { λ _. ⌜ now (out .exit) ≡ sets (now (out .entry)) at (take count (map sentShort (now (t .entry)))) ⌝ }
 {
     let mut i = 0;
     while i < count {
-        out[at + i] = sent_near(t[i]);
+        out[at + i] = sent_short(t[i]);
         i += 1;
     }
 }
@@ -99,22 +99,9 @@ fn put_list(out: &mut [u8], numbers: &[i32], at: usize, first: usize, count: usi
     requires { ⌜ (count ≤ 16) × (first + count ≤ length (now numbers)) × (at + length (signedNumbers (take count (drop first (now numbers)))) ≤ length (now out)) ⌝ }
     ensures { λ r. ⌜ Written (now (out .entry)) at (signedNumbers (take count (drop first (now (numbers .entry))))) r (now (out .exit)) ⌝ }
 {
-    let t = take_near(numbers, first, count);
+    let t = take_held(numbers, first, count);
     if all_short(&t, count) {
         put_short(out, &t, at, count);
-        return at + count;
-    }
-    put_signed_numbers(out, numbers, at, first, count)
-}
-
-// `count` signed numbers, and where they are short the one behind them too, over which the next byte is written: with 15 the compiler stores sixteen bytes at once.
-fn put_list_ahead(out: &mut [u8], numbers: &[i32], at: usize, first: usize, count: usize) -> usize
-    requires { ⌜ (count < 16) × (first + count < length (now numbers)) × (at + length (signedNumbers (take count (drop first (now numbers)))) < length (now out)) ⌝ }
-    ensures { λ r. ⌜ Ahead (now (out .entry)) at (now (numbers .entry)) first count r (now (out .exit)) ⌝ }
-{
-    let t = take_near(numbers, first, count + 1);
-    if all_short(&t, count + 1) {
-        put_short(out, &t, at, count + 1);
         return at + count;
     }
     put_signed_numbers(out, numbers, at, first, count)
@@ -134,25 +121,6 @@ fn put_blocks(out: &mut [u8], levels: &[i32], at: usize, place: usize) -> usize
     p
 }
 
-// The same, at once where all numbers are short.
-fn put_four(out: &mut [u8], levels: &[i32], at: usize, place: usize) -> usize
-    requires { ⌜ (place + 64 ≤ length (now levels)) × (at + length (sideBytes ResidualBook.NormalScan 0 4 place (now levels)) ≤ length (now out)) ⌝ }
-    ensures { λ r. ⌜ Written (now (out .entry)) at (sideBytes ResidualBook.NormalScan 0 4 place (now (levels .entry))) r (now (out .exit)) ⌝ }
-{
-    let a = take_near(levels, place, 16);
-    let b = take_near(levels, place + 16, 16);
-    let c = take_near(levels, place + 16 + 16, 16);
-    let d = take_near(levels, place + 16 + 16 + 16, 16);
-    if all_short(&a, 16) & all_short(&b, 16) & all_short(&c, 16) & all_short(&d, 16) {
-        put_short(out, &a, at, 16);
-        put_short(out, &b, at + 16, 16);
-        put_short(out, &c, at + 16 + 16, 16);
-        put_short(out, &d, at + 16 + 16 + 16, 16);
-        return at + 16 + 16 + 16 + 16;
-    }
-    put_blocks(out, levels, at, place)
-}
-
 // The eight chroma AC lists, which have no place 0.
 fn put_ac(out: &mut [u8], levels: &[i32], at: usize) -> usize
     requires { ⌜ (length (now levels) ≡ 392) × (at + length (sideBytes ResidualBook.NormalScan 1 8 264 (now levels)) ≤ length (now out)) ⌝ }
@@ -160,11 +128,11 @@ fn put_ac(out: &mut [u8], levels: &[i32], at: usize) -> usize
 {
     let mut p = at;
     let mut i = 0;
-    while i < 7 {
-        p = put_list_ahead(out, levels, p, 265 + 16 * i, 15);
+    while i < 8 {
+        p = put_list(out, levels, p, 265 + 16 * i, 15);
         i += 1;
     }
-    put_list(out, levels, p, 377, 15)
+    p
 }
 
 // The lists of luma quadrant q, where they are coded.
@@ -173,7 +141,7 @@ fn put_quadrant(out: &mut [u8], levels: &[i32], at: usize, pattern: u8, q: usize
     ensures { λ r. ⌜ Written (now (out .entry)) at (itemsBytes 4 (4 * q) pattern (now (levels .entry))) r (now (out .exit)) ⌝ }
 {
     if luma_quadrant_coded(pattern, q as u32) {
-        return put_four(out, levels, at, 64 * q);
+        return put_blocks(out, levels, at, 64 * q);
     }
     at
 }

@@ -7,11 +7,10 @@ use Rattle.refusal.specs.Got.{got}
 use Rattle.lists.proofs.Laws.{Counting, counting, count-end, count-stop, count-on}
 use Rattle.record.specs.Record.{Record}
 use Rattle.record.specs.Parse.{parseRecord}
-use Rattle.passing.proofs.Passes.{passed, not-passed}
 use Rattle.checking.specs.Records.{records}
 use Rattle.checking.specs.Check.{checkAnswer}
 use Rattle.checking.specs.declared.CheckAnswer.the-variants.{Records, Refused}
-use Rattle.checking.proofs.Laws.{grid-takes, records-tally}
+use Rattle.checking.proofs.Laws.{grid-takes, records-tally, record-read, not-record}
 use borrow.Author.Needs.{needs}
 use Rattle.checking.proofs.check_records.Statement.{statement}
 use Rattle.checking.proofs.check_records.Tie as tie
@@ -25,7 +24,7 @@ abbrev μ-loop : tie.MeasureT-loop
 -- what was read, of the definition
 found : (c : tie.After-known-told Inv-loop μ-loop) → let a = c .before .before .before .before .before .before .before .args in
     (r : Record) × (n : ℕ) × (parseRecord (a .cols) (a .rows) (drop (c .before .before .before .before .before .loop .at) (a .bytes .now)) ≡ got r n) × (c .before .next .given .0 .0 ≡ c .before .before .before .before .before .loop .at + n)
-found c = passed (c .before .before .before .before .before .loop .at) _ _ (sym (c .before .next .given .1) ∙ c .before .before .before .pass-record .ensures)
+found c = record-read (c .before .before .before .before .before .loop .at) _ _ (sym (c .before .next .given .1) ∙ c .before .before .before .check-record .ensures)
 
 loop-less : tie.Need-loop-less Inv-loop μ-loop
 loop-less c =
@@ -42,7 +41,7 @@ loop-again c =
 returns : tie.Need-returns Inv-loop μ-loop
 returns c =
     let s = c .before .before .before .before .before .before .before in
-    sym (count-stop (c .before .before .before .before .before .loop .inv) (grid-takes (s .args .cols) (s .args .rows) (s .pre)) (c .before .before .before .before .loop-test .taken) _ (not-passed (c .before .before .before .before .before .loop .at) _ _ (sym (c .before .why .given .1) ∙ c .before .before .before .pass-record .ensures)))
+    sym (count-stop (c .before .before .before .before .before .loop .inv) (grid-takes (s .args .cols) (s .args .rows) (s .pre)) (c .before .before .before .before .loop-test .taken) _ (not-record (c .before .before .before .before .before .loop .at) _ _ (sym (c .before .why .given .1) ∙ c .before .before .before .check-record .ensures)))
 
 returns-2 : tie.Need-returns-2 Inv-loop μ-loop
 returns-2 c = sym (count-end (c .before .loop .inv) (c .loop-test .left))

@@ -1,6 +1,6 @@
 -- `parsing::parse::parse_place`: each number's answer, taken on to the whole.
 use mathlib.Core.Path.{sym, _∙_}
-use Rattle.parsing.proofs.Places.{no-column, no-row, no-mode, outside, inside}
+use Rattle.parsing.proofs.Places.{no-column, no-row, no-mode, outside, is-skip, is-coded}
 use borrow.Author.Needs.{needs}
 use Rattle.parsing.proofs.parse.parse_place.Statement.{statement}
 use Rattle.parsing.proofs.parse.parse_place.Tie as tie
@@ -23,10 +23,15 @@ returns-3 c =
 returns-4 : tie.Need-returns-4
 returns-4 c =
     let a = c .before .before .before .before .before .before .before .before .before .before .before .before .before .before .before .args in
-    inside (a .cols) (a .rows) (a .bytes .now) (a .at) _ _ (sym (c .before .before .before .before .before .before .before .before .before .before .before .column .given .1) ∙ c .before .before .before .before .before .before .before .before .before .before .before .before .before .read-number .ensures) _ _ (sym (c .before .before .before .before .before .before .before .row .given .1) ∙ c .before .before .before .before .before .before .before .before .before .read-number2 .ensures) _ _ (sym (c .before .before .before .mode .given .1) ∙ c .before .before .before .before .before .read-number3 .ensures) (c .before .if1 .taken) _ (c .place-head .ensures)
+    is-skip (a .cols) (a .rows) (a .bytes .now) (a .at) _ _ (sym (c .before .before .before .before .before .before .before .before .before .before .before .column .given .1) ∙ c .before .before .before .before .before .before .before .before .before .before .before .before .before .read-number .ensures) _ _ (sym (c .before .before .before .before .before .before .before .row .given .1) ∙ c .before .before .before .before .before .before .before .before .before .read-number2 .ensures) _ _ (sym (c .before .before .before .mode .given .1) ∙ c .before .before .before .before .before .read-number3 .ensures) (c .before .if1 .taken) (c .if2 .taken)
 
 returns-5 : tie.Need-returns-5
 returns-5 c =
+    let a = c .before .before .before .before .before .before .before .before .before .before .before .before .before .before .before .before .args in
+    is-coded (a .cols) (a .rows) (a .bytes .now) (a .at) _ _ (sym (c .before .before .before .before .before .before .before .before .before .before .before .before .column .given .1) ∙ c .before .before .before .before .before .before .before .before .before .before .before .before .before .before .read-number .ensures) _ _ (sym (c .before .before .before .before .before .before .before .before .row .given .1) ∙ c .before .before .before .before .before .before .before .before .before .before .read-number2 .ensures) _ _ (sym (c .before .before .before .before .mode .given .1) ∙ c .before .before .before .before .before .before .read-number3 .ensures) (c .before .before .if1 .taken) (c .before .if2 .left) _ (c .place-head .ensures)
+
+returns-6 : tie.Need-returns-6
+returns-6 c =
     let a = c .before .before .before .before .before .before .before .before .before .before .before .before .before .before .args in
     outside (a .cols) (a .rows) (a .bytes .now) (a .at) _ _ (sym (c .before .before .before .before .before .before .before .before .before .before .column .given .1) ∙ c .before .before .before .before .before .before .before .before .before .before .before .before .read-number .ensures) _ _ (sym (c .before .before .before .before .before .before .row .given .1) ∙ c .before .before .before .before .before .before .before .before .read-number2 .ensures) _ _ (sym (c .before .before .mode .given .1) ∙ c .before .before .before .before .read-number3 .ensures) (c .if1 .left)
 
@@ -46,6 +51,7 @@ parse-place-spec =
     (λ c. search needs)
     (λ c. search needs)
     returns-3
-    (λ c κs. search needs)
     returns-4
-    returns-5)
+    (λ c κs. search needs)
+    returns-5
+    returns-6)

@@ -1,6 +1,6 @@
 -- `parsing::parse::store_received`: one number a turn.
-use mathlib.Core.Path.{_≡_, refl, ap, _∙_}
-use Prim.Native.Nat.{_≤_, _+_, _-_}
+use mathlib.Core.Path.{_≡_, refl}
+use Prim.Native.Nat.{_≤_, _-_}
 use native.Mathlib.Omega.{arith}
 use borrow.Author.Needs.{needs}
 use lib.IntN.{pos}
@@ -11,8 +11,6 @@ use mir.Val.{toZ, ofZ}
 use Rattle.transcript.proofs.Short.{stored-turn}
 use Rattle.parsing.proofs.parse.store_received.Statement.{statement}
 use Rattle.parsing.proofs.parse.store_received.Tie as tie
-use Rattle.parsing.proofs.parse.store_received.Reads as reads
-use Rattle.parsing.proofs.parse.store_received.Lts as lts
 
 abbrev Inv-loop : tie.InvT-loop
 Inv-loop out₀ t first count i₀ out i = (i ≤ count) × (length out ≡ length out₀) × (out ≡ sets out₀ first (take i t))

@@ -10,8 +10,6 @@ use Rattle.parsing.specs.Short.{Received}
 use Rattle.parsing.proofs.Short.{received-turn}
 use Rattle.parsing.proofs.parse.take_received.Statement.{statement}
 use Rattle.parsing.proofs.parse.take_received.Tie as tie
-use Rattle.parsing.proofs.parse.take_received.Reads as reads
-use Rattle.parsing.proofs.parse.take_received.Lts as lts
 
 abbrev Inv-loop : tie.InvT-loop
 Inv-loop bytes at count t₀ i₀ t i = (i ≤ count) × Received bytes at i t

@@ -1,27 +1,24 @@
 -- `transcript::write::all_short`: one number a turn.
-use mathlib.Core.Path.{_≡_, refl, _∙_}
-use mathlib.Core.Bool.{_&&_}
-use Prim.Native.Nat.{_≤_, _+_, _-_}
+use mathlib.Core.Path.{_≡_, refl}
+use Prim.Native.Nat.{_≤_, _-_}
 use native.Mathlib.Numerals.{add-one}
 use native.Mathlib.Omega.{arith}
-use Rattle.transcript.specs.Short.{allNear}
+use Rattle.transcript.specs.Short.{allShort}
 use Rattle.transcript.proofs.write.all_short.Statement.{statement}
 use Rattle.transcript.proofs.write.all_short.Tie as tie
-use Rattle.transcript.proofs.write.all_short.Reads as reads
-use Rattle.transcript.proofs.write.all_short.Lts as lts
 
 abbrev Inv-loop : tie.InvT-loop
-Inv-loop t count short₀ i₀ short i = (i ≤ count) × (short ≡ allNear t i)
+Inv-loop t count short₀ i₀ short i = (i ≤ count) × (short ≡ allShort t i)
 
 abbrev μ-loop : tie.MeasureT-loop
 μ-loop t count short₀ i₀ short i = count - i
 
 loop-holds : tie.Need-loop-holds Inv-loop μ-loop
-unfolding allNear
+unfolding allShort
 loop-holds c = (omega arith, refl)
 
 loop-again : tie.Need-loop-again Inv-loop μ-loop
-unfolding allNear
+unfolding allShort
 loop-again c =
     let l = c .before .before .before .loop in
     (omega arith, rw (add-one (l .i), l .inv .1))

@@ -1,6 +1,5 @@
 -- `transcript::write::put_chroma` writes chroma DC and chroma AC, chroma DC alone, or nothing.
-use mathlib.Core.Path.{_≡_, sym, _∙_}
-use Prim.Native.Nat.{ℕ}
+use mathlib.Core.Path.{sym, _∙_}
 use native.Mathlib.Omega.{arith}
 use borrow.Author.Needs.{needs}
 use lib.Dec.{lit<}

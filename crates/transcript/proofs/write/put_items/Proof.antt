@@ -2,7 +2,6 @@
 use mathlib.Core.Path.{_≡_, refl, _∙_}
 use Prim.Native.Nat.{_+_, _-_, _*_, _≤_}
 use native.Mathlib.Omega.{arith}
-use borrow.Author.Needs.{needs}
 use Rattle.record.specs.Write.{itemsBytes}
 use Rattle.transcript.proofs.Writing.{Still, still-all, still-fits, still-more, still-room, still-last, quadrant-bytes}
 use Rattle.transcript.proofs.write.put_items.Statement.{statement}

@@ -8,8 +8,8 @@ use Rattle.transcript.proofs.Writing.{written-none}
 use Rattle.transcript.proofs.write.put_quadrant.Statement.{statement}
 use Rattle.transcript.proofs.write.put_quadrant.Tie as tie
 
-put-four-requires : tie.Need-put-four-requires
-put-four-requires c κs =
+put-blocks-requires : tie.Need-put-blocks-requires
+put-blocks-requires c κs =
     let s = c .before .before .before .before in
     let a = s .args in
     let t = luma-coded (a .pattern) (a .q) (s .pre .1) ∙ sym (c .before .before .luma-quadrant-coded .ensures) ∙ c .before .if1 .taken in
@@ -20,7 +20,7 @@ returns c =
     let s = c .before .before .before .before .before .before .before in
     let a = s .args in
     let t = luma-coded (a .pattern) (a .q) (s .pre .1) ∙ sym (c .before .before .before .before .before .luma-quadrant-coded .ensures) ∙ c .before .before .before .before .if1 .taken in
-    rw (side-written (luma-side (a .q) (s .pre .1)) (a .pattern) t (64 * a .q) (luma-place (a .q) (s .pre .1)) (a .levels .now)) (c .before .before .put-four .ensures)
+    rw (side-written (luma-side (a .q) (s .pre .1)) (a .pattern) t (64 * a .q) (luma-place (a .q) (s .pre .1)) (a .levels .now)) (c .before .before .put-blocks .ensures)
 
 returns-2 : tie.Need-returns-2
 returns-2 c =
@@ -36,7 +36,7 @@ put-quadrant-spec =
     (λ c. search needs)
     (λ c κs. search needs)
     (λ c. search needs)
-    put-four-requires
+    put-blocks-requires
     (λ c. search needs)
     returns
     returns-2)

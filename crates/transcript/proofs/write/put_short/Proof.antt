@@ -1,20 +1,18 @@
 -- `transcript::write::put_short`: one byte a turn.
-use mathlib.Core.Path.{_≡_, refl, ap, _∙_}
-use Prim.Native.Nat.{_≤_, _+_, _-_}
+use mathlib.Core.Path.{_≡_, refl}
+use Prim.Native.Nat.{_≤_, _-_}
 use native.Mathlib.Omega.{arith}
 use borrow.Author.Needs.{needs}
 use mathlib.Core.List.{map}
 use lib.ListN.{length, take, length-set, length-map}
 use lib.Seq.{sets}
-use Rattle.transcript.specs.Short.{sentNear}
+use Rattle.transcript.specs.Short.{sentShort}
 use Rattle.transcript.proofs.Short.{sent-at, stored-turn}
 use Rattle.transcript.proofs.write.put_short.Statement.{statement}
 use Rattle.transcript.proofs.write.put_short.Tie as tie
-use Rattle.transcript.proofs.write.put_short.Reads as reads
-use Rattle.transcript.proofs.write.put_short.Lts as lts
 
 abbrev Inv-loop : tie.InvT-loop
-Inv-loop out₀ t at count i₀ out i = (i ≤ count) × (length out ≡ length out₀) × (out ≡ sets out₀ at (take i (map sentNear t)))
+Inv-loop out₀ t at count i₀ out i = (i ≤ count) × (length out ≡ length out₀) × (out ≡ sets out₀ at (take i (map sentShort t)))
 
 abbrev μ-loop : tie.MeasureT-loop
 μ-loop out₀ t at count i₀ out i = count - i
@@ -26,7 +24,7 @@ loop-again : tie.Need-loop-again Inv-loop μ-loop
 loop-again c =
     let a = c .before .before .before .before .before .args in
     let l = c .before .before .before .loop in
-    (omega arith, simp length-set (l .inv .1), rw (l .inv .2, c .sent-near .ensures, ← sent-at (a .t .now) (l .i)) (stored-turn 0 (a .out .now) (a .at) (map sentNear (a .t .now)) (l .i) (omega (arith, length-map (a .t .now) sentNear))))
+    (omega arith, simp length-set (l .inv .1), rw (l .inv .2, c .sent-short .ensures, ← sent-at (a .t .now) (l .i)) (stored-turn 0 (a .out .now) (a .at) (map sentShort (a .t .now)) (l .i) (omega (arith, length-map (a .t .now) sentShort))))
 
 same-length : tie.Need-same-length Inv-loop μ-loop
 same-length c = omega arith

@@ -1,4 +1,4 @@
--- `transcript::write::take_near`: one number a turn.
+-- `transcript::write::take_held`: one number a turn.
 use mathlib.Core.Path.{_≡_, refl, ap, _∙_}
 use Prim.Native.Nat.{_≤_, _+_, _-_}
 use native.Mathlib.Omega.{arith}
@@ -7,13 +7,13 @@ use lib.IntN.{pos}
 use lib.ListN.{getD}
 use mir.Syntax.{w32}
 use Rattle.ints.proofs.Fits.{back}
-use Rattle.transcript.specs.Short.{nearOf, Near}
-use Rattle.transcript.proofs.Short.{near-turn}
-use Rattle.transcript.proofs.write.take_near.Statement.{statement}
-use Rattle.transcript.proofs.write.take_near.Tie as tie
+use Rattle.transcript.specs.Short.{heldOf, Held}
+use Rattle.transcript.proofs.Short.{held-turn}
+use Rattle.transcript.proofs.write.take_held.Statement.{statement}
+use Rattle.transcript.proofs.write.take_held.Tie as tie
 
 abbrev Inv-loop : tie.InvT-loop
-Inv-loop numbers first count t₀ i₀ t i = (i ≤ count) × Near numbers first i t
+Inv-loop numbers first count t₀ i₀ t i = (i ≤ count) × Held numbers first i t
 
 abbrev μ-loop : tie.MeasureT-loop
 μ-loop numbers first count t₀ i₀ t i = count - i
@@ -26,15 +26,15 @@ loop-again c =
     let l = c .before .before .before .loop in
     let a = c .before .before .before .before .args in
     let v = back w32 {z = getD (a .numbers .now) (a .first + l .i) (pos 0)} (c .before .v .given) refl in
-    (omega arith, near-turn (l .inv .1) _ (omega arith) (c .near-of .ensures ∙ ap nearOf v))
+    (omega arith, held-turn (l .inv .1) _ (omega arith) (c .held-of .ensures ∙ ap heldOf v))
 
 returns : tie.Need-returns Inv-loop μ-loop
 returns c =
     let e : c .before .loop .i ≡ c .before .before .args .count = omega arith in
     rw e at (c .before .loop .inv .1)
 
-pub take-near-spec : {M : Type 1} → statement M
-take-near-spec =
+pub take-held-spec : {M : Type 1} → statement M
+take-held-spec =
     tie.close
     (tie.spec
     Inv-loop

@@ -1,2 +1,0 @@
-// Records of a transcript, passed over.
-pub mod pass;
