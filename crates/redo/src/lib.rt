@@ -6,7 +6,7 @@ ghost use Rattle.picture.specs.Picture.{Sized, cellCount};
 ghost use Rattle.record.specs.Parse.{parseRecord};
 ghost use Rattle.parsing.specs.Answers.{placeAnswer};
 ghost use Rattle.parsing.specs.Place.{parsePlace};
-ghost use Rattle.outcome.specs.Entry.{stateOf};
+ghost use Rattle.outcome.specs.Entry.{stateBefore, stateAfter};
 ghost use Rattle.redo.specs.Stepped.{Stepped};
 use apply::applied::apply_coded;
 use apply::applied::apply_skip;
@@ -42,7 +42,7 @@ fn replay_coded(
 ) -> Step
     requires { ⌜ (frame .cols ≤ 4096) × (frame .rows ≤ 4096) × (PlaceAnswer.Coded head next ≡ placeAnswer at (parsePlace (frame .cols) (frame .rows) (drop at (now bytes)))) ⌝ }
     requires { ⌜ Sized (frame .cols) (frame .rows) (length (now y)) (length (now cb)) (length (now cr)) × Sized (frame .cols) (frame .rows) (length (now ry)) (length (now rcb)) (length (now rcr)) × (length (now mv) ≡ 2 * cellCount (frame .cols) (frame .rows)) × (length (now marks) ≡ cellCount (frame .cols) (frame .rows)) ⌝ }
-    ensures { λ r. ⌜ Stepped (parseRecord (frame .cols) (frame .rows) (drop at (now (bytes .entry)))) at (r .next) (stateOf frame quantiser (now (ry .entry)) (now (rcb .entry)) (now (rcr .entry)) (now (y .entry)) (now (cb .entry)) (now (cr .entry)) (now (mv .entry)) (now (marks .entry))) (stateOf frame (r .quantiser) (now (ry .entry)) (now (rcb .entry)) (now (rcr .entry)) (now (y .exit)) (now (cb .exit)) (now (cr .exit)) (now (mv .exit)) (now (marks .exit))) ⌝ }
+    ensures { λ r. ⌜ Stepped (parseRecord (frame .cols) (frame .rows) (drop at (now (bytes .entry)))) at (r .next) (stateBefore frame quantiser ry rcb rcr y cb cr mv marks) (stateAfter frame (r .quantiser) ry rcb rcr y cb cr mv marks) ⌝ }
 {
     let mut vectors = [0i32; 32];
     let mut levels = [0i32; 392];
@@ -88,7 +88,7 @@ pub fn replay_record(
 ) -> Step
     requires { ⌜ (frame .cols ≤ 4096) × (frame .rows ≤ 4096) ⌝ }
     requires { ⌜ Sized (frame .cols) (frame .rows) (length (now y)) (length (now cb)) (length (now cr)) × Sized (frame .cols) (frame .rows) (length (now ry)) (length (now rcb)) (length (now rcr)) × (length (now mv) ≡ 2 * cellCount (frame .cols) (frame .rows)) × (length (now marks) ≡ cellCount (frame .cols) (frame .rows)) ⌝ }
-    ensures { λ r. ⌜ Stepped (parseRecord (frame .cols) (frame .rows) (drop at (now (bytes .entry)))) at (r .next) (stateOf frame quantiser (now (ry .entry)) (now (rcb .entry)) (now (rcr .entry)) (now (y .entry)) (now (cb .entry)) (now (cr .entry)) (now (mv .entry)) (now (marks .entry))) (stateOf frame (r .quantiser) (now (ry .entry)) (now (rcb .entry)) (now (rcr .entry)) (now (y .exit)) (now (cb .exit)) (now (cr .exit)) (now (mv .exit)) (now (marks .exit))) ⌝ }
+    ensures { λ r. ⌜ Stepped (parseRecord (frame .cols) (frame .rows) (drop at (now (bytes .entry)))) at (r .next) (stateBefore frame quantiser ry rcb rcr y cb cr mv marks) (stateAfter frame (r .quantiser) ry rcb rcr y cb cr mv marks) ⌝ }
 {
     match parse_place(bytes, at, frame.cols, frame.rows) {
         PlaceAnswer::Skip(column, row, next) => {
