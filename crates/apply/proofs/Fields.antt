@@ -13,11 +13,11 @@ use Rattle.ints.specs.Z.{if_then_else_}
 use Rattle.picture.specs.Rows.{row, rows}
 use Rattle.picture.proofs.Laws.{row-more, rows-more}
 use Rattle.vectors.specs.Modes.{numMotionVectors}
-use Rattle.predict.specs.Predict.{Field, fieldOf}
-use Rattle.predict.specs.Stored.{storedVectors, storedMarks, storedField}
+use Rattle.picture.specs.Field.{Field, fieldOf}
+use Rattle.vectors.specs.Stored.{storedVectors, storedMarks, storedField}
 use Rattle.record.specs.Record.{Record, skipRecord}
 use Rattle.reading.specs.Bits.{callOf}
-use Rattle.moving.specs.Moved.{vectorX, vectorY}
+use Rattle.apply.specs.Moved.{vectorX, vectorY}
 use Rattle.apply.specs.Apply.{storedUpTo, appliedField}
 use Rattle.apply.specs.Cells.{ownNumber}
 

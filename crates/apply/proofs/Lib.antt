@@ -1,4 +1,5 @@
--- What the proofs of this crate use.
+pub mod Partitions
+pub mod Residuals
 pub mod Fields
 pub mod Macroblocks
 pub mod Tiles

@@ -12,8 +12,8 @@ use Rattle.vectors.specs.Modes.{numMotionVectors}
 use Rattle.record.specs.Record.{Record, skipRecord}
 use Rattle.record.specs.Range.{RecordRange}
 use Rattle.reading.specs.Bits.{callOf}
-use Rattle.moving.specs.Moved.{movedUpTo}
-use Rattle.adding.specs.Blocks.{lumaUpTo, chromaAdded}
+use Rattle.apply.specs.Moved.{movedUpTo}
+use Rattle.apply.specs.Blocks.{lumaUpTo, chromaAdded}
 use Rattle.apply.specs.Apply.{appliedLuma, appliedChroma}
 
 module _ (cols rows : ℕ) (ref : List ℕ) (r : Record) (pic : List ℕ) where

@@ -17,12 +17,12 @@ use Rattle.picture.specs.Picture.{always, filled}
 use Rattle.picture.proofs.Laws.{each-at, each-is, painted-length, both-true, within-true, within-in}
 use Rattle.vectors.specs.Modes.{partitionWidth, partitionHeight, numMotionVectors, offsetX, offsetY}
 use Rattle.vectors.proofs.Partitions.{inside-units, Holds, tiles, tiles-all}
-use Rattle.predict.specs.Predict.{Field}
-use Rattle.predict.specs.Stored.{pairOf, storedVectors, storedMarks, storedField}
-use Rattle.predict.proofs.Tests.{same-test}
-use Rattle.questions.specs.declared.Call.{Call}
+use Rattle.picture.specs.Field.{Field}
+use Rattle.vectors.specs.Stored.{pairOf, storedVectors, storedMarks, storedField}
+use Rattle.vectors.proofs.Tests.{same-test}
+use Rattle.state.specs.declared.Call.{Call}
 use Rattle.reading.specs.Read.{cellX, cellY, cellsWide, cellsHigh, storedAt}
-use Rattle.moving.specs.Moved.{vectorX, vectorY}
+use Rattle.apply.specs.Moved.{vectorX, vectorY}
 use Rattle.apply.specs.Apply.{storedUpTo}
 use Rattle.apply.specs.Cells.{ownerOf, ownNumber}
 

@@ -7,14 +7,14 @@ use lib.IntN.{ℤ, pos}
 use Rattle.ints.specs.Z.{if_then_else_}
 use Rattle.picture.specs.Picture.{copied}
 use Rattle.vectors.specs.Modes.{numMotionVectors}
-use Rattle.predict.specs.Predict.{Field}
-use Rattle.predict.specs.Stored.{storedField}
-use Rattle.questions.specs.declared.Call.{Call}
+use Rattle.picture.specs.Field.{Field}
+use Rattle.vectors.specs.Stored.{storedField}
+use Rattle.state.specs.declared.Call.{Call}
 use Rattle.record.specs.Record.{Record}
 use Rattle.reading.specs.Read.{storedAt}
 use Rattle.reading.specs.Bits.{callOf}
-use Rattle.moving.specs.Moved.{vectorX, vectorY, movedUpTo}
-use Rattle.adding.specs.Blocks.{lumaUpTo, chromaAdded}
+use Rattle.apply.specs.Moved.{vectorX, vectorY, movedUpTo}
+use Rattle.apply.specs.Blocks.{lumaUpTo, chromaAdded}
 
 -- ---- vectors and marks: those of the first n partitions stored
 unfoldable pub storedUpTo : ℕ → Call → List ℤ → Field → Field

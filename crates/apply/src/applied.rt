@@ -3,19 +3,19 @@ ghost use mathlib.Core.Path.{_≡_};
 ghost use Prim.Native.Nat.{_*_, _<_, _≤_};
 ghost use lib.ListN.{length};
 ghost use Rattle.picture.specs.Picture.{lumaLength, chromaLength, cellCount, Sized, Within};
-ghost use Rattle.predict.specs.Predict.{fieldOf};
+ghost use Rattle.picture.specs.Field.{fieldOf};
 ghost use Rattle.record.specs.Record.{recordOf, skipRecord};
 ghost use Rattle.record.specs.Range.{RecordRange};
 ghost use Rattle.apply.specs.Apply.{appliedLuma, appliedChroma, appliedField};
+use crate::svq3_frame::compensate_chroma;
+use crate::svq3_frame::compensate_luma;
 use crate::svq3_picture::store_partitions;
-use adding::svq3_recon::add_chroma;
-use adding::svq3_recon::add_luma;
-use moving::svq3_frame::compensate_chroma;
-use moving::svq3_frame::compensate_luma;
+use crate::svq3_recon::add_chroma;
+use crate::svq3_recon::add_luma;
 use picture::svq3_picture::copy_macroblock_from;
-use predict::svq3_frame::mark_macroblock;
-use questions::Call;
 use record::Head;
+use state::Call;
+use vectors::svq3_frame::mark_macroblock;
 
 // Compensation, then the residual.
 pub fn apply_luma(

@@ -5,11 +5,11 @@ ghost use lib.ListN.{length};
 ghost use Rattle.picture.specs.Picture.{cellCount, Within};
 ghost use Rattle.picture.specs.Rows.{row};
 ghost use Rattle.vectors.specs.Modes.{numMotionVectors};
-ghost use Rattle.predict.specs.Predict.{fieldOf};
+ghost use Rattle.picture.specs.Field.{fieldOf};
 ghost use Rattle.apply.specs.Apply.{storedUpTo};
 ghost use Rattle.apply.specs.Cells.{ownerOf, ownNumber};
-use predict::svq3_frame::mark_row;
-use questions::Call;
+use state::Call;
+use vectors::svq3_frame::mark_row;
 
 // The partition of each cell of a macroblock, a hex digit each, by rows, the first the lowest.
 fn owners(mode: u32) -> u64

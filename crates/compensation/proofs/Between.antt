@@ -13,7 +13,7 @@ use Rattle.picture.proofs.Laws.{painted-same}
 use Rattle.ints.specs.Z.{if_then_else_, floorZ, modZ}
 use Rattle.compensation.specs.Formula.{half, third, along, corner, third2d, formula}
 use Rattle.compensation.specs.Sample.{tap, sampleAt, blockSample}
-use Rattle.questions.specs.Questions.{sidesFit}
+use Rattle.state.specs.Questions.{sidesFit}
 use Rattle.compensation.specs.Block.{blockOut}
 use Rattle.compensation.proofs.Sides.{spans, block-inside}
 

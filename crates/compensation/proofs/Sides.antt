@@ -9,8 +9,8 @@ use lib.Dec.{leb, eqb}
 use borrow.Author.Tests.{leb-true, eqb-true}
 use Rattle.picture.specs.Painted.{Inside}
 use Rattle.picture.proofs.Laws.{both-true}
-use Rattle.questions.specs.Questions.{sidesFit}
-use Rattle.questions.proofs.Laws.{four-true}
+use Rattle.state.specs.Questions.{sidesFit}
+use Rattle.state.proofs.Laws.{four-true}
 use Rattle.compensation.specs.Block.{Whole, Span}
 
 module _ (w h size : ℕ) where

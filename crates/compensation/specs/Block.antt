@@ -9,7 +9,7 @@ use lib.ListN.{length}
 use Rattle.ints.specs.Z.{if_then_else_, towardZero}
 use Rattle.refusal.specs.declared.Refusal.the-variants.{StateLength, CallRange}
 use Rattle.picture.specs.Painted.{painted}
-use Rattle.questions.specs.Questions.{sidesFit}
+use Rattle.state.specs.Questions.{sidesFit}
 use Rattle.compensation.specs.Sample.{blockSample}
 use Rattle.compensation.specs.declared.svq3_mc.BlockAnswer.{BlockAnswer}
 use Rattle.compensation.specs.declared.svq3_mc.BlockAnswer.the-variants.{Done, Refused}

@@ -15,8 +15,8 @@ use crate::window::origin;
 use ints::half_toward_zero;
 use picture::Block;
 use picture::Size;
-use questions::sides_fit;
 use refusal::Refusal;
+use state::sides_fit;
 
 pub struct MvComponentSplit {
     pub whole: i64,

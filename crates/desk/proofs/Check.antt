@@ -13,15 +13,15 @@ use Rattle.ints.proofs.Fits.{if-no, if-yes}
 use Rattle.refusal.specs.Got.{Got, got, refused, andThen, after, mapGot}
 use Rattle.refusal.specs.declared.Refusal.{Refusal}
 use Rattle.refusal.specs.declared.Refusal.the-variants.{GridSize}
-use Rattle.lists.specs.Until.{untilEnd}
-use Rattle.questions.specs.Questions.{gridRight}
-use Rattle.questions.proofs.Laws.{Grid, grid}
+use Rattle.refusal.specs.Until.{untilEnd}
+use Rattle.state.specs.Questions.{gridRight}
+use Rattle.state.proofs.Laws.{Grid, grid}
 use Rattle.record.specs.Record.{Record}
 use Rattle.record.specs.Parse.{parseRecord}
-use Rattle.checking.specs.Records.{records, recordsIn}
-use Rattle.checking.specs.Check.{checkAnswer, checked}
-use Rattle.checking.specs.declared.CheckAnswer.{CheckAnswer}
-use Rattle.checking.specs.declared.CheckAnswer.the-variants.{Records, Refused}
+use Rattle.transcript.specs.Records.{records, recordsIn}
+use Rattle.transcript.specs.Check.{checkAnswer, checked}
+use Rattle.transcript.specs.declared.check.CheckAnswer.{CheckAnswer}
+use Rattle.transcript.specs.declared.check.CheckAnswer.the-variants.{Records, Refused}
 use Rattle.desk.specs.Given.{sideOf}
 
 -- ---- how many values are read: a turn reads one at most

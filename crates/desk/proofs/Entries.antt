@@ -8,14 +8,14 @@ use lib.IntN.{ℤ}
 use lib.ListN.{length}
 use lib.Seq.{sets}
 use Rattle.ints.specs.Z.{if_then_else_}
-use Rattle.questions.specs.declared.Call.{Call}
-use Rattle.outcome.specs.State.{State}
-use Rattle.outcome.specs.Decode.{decoded}
-use Rattle.outcome.specs.Entry.{stateOf, left, quantiserBy}
-use Rattle.outcome.specs.declared.Frame.{Frame}
-use Rattle.outcome.specs.declared.MbAnswer.{MbAnswer}
-use Rattle.report.specs.Left.{leftOf, listLeft}
-use Rattle.report.specs.declared.Report.{Report}
+use Rattle.state.specs.declared.Call.{Call}
+use Rattle.state.specs.State.{State}
+use Rattle.macroblock.specs.Decode.{decoded}
+use Rattle.macroblock.specs.Entry.{stateOf, left, quantiserBy}
+use Rattle.state.specs.declared.Frame.{Frame}
+use Rattle.macroblock.specs.declared.MbAnswer.{MbAnswer}
+use Rattle.run.specs.Left.{leftOf, listLeft}
+use Rattle.run.specs.declared.Report.{Report}
 use Rattle.replay.specs.Replay.{quantiserOf, replayLeft, replayed}
 use Rattle.replay.specs.declared.ReplayAnswer.{ReplayAnswer}
 use Rattle.desk.specs.Answer.{outputRoom, mbCode, stopCode, replayCode}

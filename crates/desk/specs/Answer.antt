@@ -6,12 +6,12 @@ use Rattle.refusal.specs.Refusal.{numberOf}
 use Rattle.refusal.specs.declared.Refusal.{Refusal}
 use Rattle.compensation.specs.declared.svq3_mc.BlockAnswer.{BlockAnswer}
 use Rattle.compensation.specs.declared.svq3_mc.BlockAnswer.the-variants as block
-use Rattle.checking.specs.declared.CheckAnswer.{CheckAnswer}
-use Rattle.checking.specs.declared.CheckAnswer.the-variants as check
-use Rattle.outcome.specs.declared.MbAnswer.{MbAnswer}
-use Rattle.outcome.specs.declared.MbAnswer.the-variants as mb
-use Rattle.report.specs.declared.Stop.{Stop}
-use Rattle.report.specs.declared.Stop.the-variants.{Done, By}
+use Rattle.transcript.specs.declared.check.CheckAnswer.{CheckAnswer}
+use Rattle.transcript.specs.declared.check.CheckAnswer.the-variants as check
+use Rattle.macroblock.specs.declared.MbAnswer.{MbAnswer}
+use Rattle.macroblock.specs.declared.MbAnswer.the-variants as mb
+use Rattle.run.specs.declared.Stop.{Stop}
+use Rattle.run.specs.declared.Stop.the-variants.{Done, By}
 use Rattle.replay.specs.declared.ReplayAnswer.{ReplayAnswer}
 use Rattle.replay.specs.declared.ReplayAnswer.the-variants as replay
 

@@ -4,11 +4,11 @@ use mathlib.Core.List.{List, [], _∷_}
 use Prim.Native.Nat.{ℕ, _-_}
 use lib.IntN.{ℤ, pos, negsuc}
 use Rattle.refusal.specs.Refusal.{detailOf}
-use Rattle.outcome.specs.declared.MbAnswer.{MbAnswer}
-use Rattle.outcome.specs.declared.MbAnswer.the-variants as mb
-use Rattle.report.specs.declared.Report.{Report}
-use Rattle.report.specs.declared.Stop.{Stop}
-use Rattle.report.specs.declared.Stop.the-variants.{Done, By}
+use Rattle.macroblock.specs.declared.MbAnswer.{MbAnswer}
+use Rattle.macroblock.specs.declared.MbAnswer.the-variants as mb
+use Rattle.run.specs.declared.Report.{Report}
+use Rattle.run.specs.declared.Stop.{Stop}
+use Rattle.run.specs.declared.Stop.the-variants.{Done, By}
 use Rattle.replay.specs.declared.ReplayAnswer.{ReplayAnswer}
 use Rattle.replay.specs.declared.ReplayAnswer.the-variants as replay
 

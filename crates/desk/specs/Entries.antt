@@ -7,11 +7,11 @@ use lib.IntN.{ℤ}
 use lib.ListN.{length}
 use lib.Seq.{sets}
 use Rattle.ints.specs.Z.{if_then_else_}
-use Rattle.questions.specs.declared.Call.{Call}
-use Rattle.outcome.specs.State.{State}
-use Rattle.outcome.specs.Decode.{Outcome, decoded}
-use Rattle.outcome.specs.Entry.{Lent}
-use Rattle.report.specs.Left.{Left, listLeft}
+use Rattle.state.specs.declared.Call.{Call}
+use Rattle.state.specs.State.{State}
+use Rattle.macroblock.specs.Decode.{Outcome, decoded}
+use Rattle.macroblock.specs.Entry.{Lent}
+use Rattle.run.specs.Left.{Left, listLeft}
 use Rattle.replay.specs.Replay.{Replay, replayed}
 use Rattle.desk.specs.Answer.{outputRoom, mbCode, stopCode, replayCode}
 use Rattle.desk.specs.Counts.{mbCounts, runCounts, replayCounts}

@@ -4,7 +4,7 @@ use mathlib.Core.Bool.{not}
 use Prim.Native.Nat.{ℕ, _/_, _%_}
 use lib.Dec.{leb, eqb}
 use Rattle.ints.specs.Z.{if_then_else_}
-use Rattle.outcome.specs.declared.Frame.{Frame}
+use Rattle.state.specs.declared.Frame.{Frame}
 
 -- a side of the grid; one that 32 bits do not hold is refused as 0 is
 abbrev pub sideOf : ℕ → ℕ

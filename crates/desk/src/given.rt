@@ -1,8 +1,8 @@
 // What a C caller gives.
 ghost use mathlib.Core.Path.{_≡_};
 ghost use Rattle.desk.specs.Given.{sideOf, frameOf};
-use outcome::Frame;
-use reading::svq3_frame::Flags;
+use state::Flags;
+use state::Frame;
 
 // A side of the grid that 32 bits do not hold is past 4,096, and 0 is refused as it would be.
 pub fn side(n: u64) -> u32

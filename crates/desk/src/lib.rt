@@ -2,8 +2,8 @@
 ghost use mathlib.Core.Path.{_≡_};
 ghost use lib.ListN.{length};
 ghost use Rattle.compensation.specs.Block.{blockAnswer, blockOut};
-ghost use Rattle.checking.specs.Check.{checked};
-ghost use Rattle.outcome.specs.Entry.{stateBefore};
+ghost use Rattle.transcript.specs.Check.{checked};
+ghost use Rattle.macroblock.specs.Entry.{stateBefore};
 ghost use Rattle.desk.specs.Given.{frameOf};
 ghost use Rattle.desk.specs.Answer.{blockCode, checkCode};
 ghost use Rattle.desk.specs.Entries.{slicesBefore, slicesAfter, ended, callOf, mbEnded, runEnded, replayEnded};
@@ -13,14 +13,14 @@ use crate::told::refused;
 use crate::told::tell_macroblock;
 use crate::told::tell_replay;
 use crate::told::tell_run;
-use checking::CheckAnswer;
-use checking::check_transcript;
 use compensation::svq3_mc::BlockAnswer;
 use compensation::svq3_mc::motion_compensate_block;
 use macroblock::svq3_frame::decode_inter_mb;
-use questions::Call;
 use replay::replay::replay;
 use run::run::run;
+use state::Call;
+use transcript::check::CheckAnswer;
+use transcript::check::check_transcript;
 
 pub mod given;
 pub mod told;

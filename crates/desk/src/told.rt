@@ -6,13 +6,13 @@ ghost use lib.ListN.{length};
 ghost use lib.Seq.{sets};
 ghost use Rattle.desk.specs.Answer.{refusalCode, mbCode, stopCode, replayCode};
 ghost use Rattle.desk.specs.Counts.{wordOf, mbCounts, runCounts, replayCounts};
-use outcome::MbAnswer;
+use macroblock::MbAnswer;
 use refusal::Refusal;
 use refusal::detail_of;
 use refusal::number_of;
 use replay::ReplayAnswer;
-use report::Report;
-use report::Stop;
+use run::Report;
+use run::Stop;
 
 // Minus the refusal's number.
 pub fn refused(why: Refusal) -> i64

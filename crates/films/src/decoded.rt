@@ -5,18 +5,18 @@ use crate::bytes::number_at;
 use crate::bytes::short_at;
 use crate::head::frame_of;
 use crate::head::refused;
-use checking::RecordAnswer;
-use checking::check_record;
+use macroblock::MbAnswer;
+use macroblock::cursor_by;
 use macroblock::svq3_frame::decode_inter_mb;
-use moved::MbMoved;
-use moved::decode_moved;
-use outcome::Cursor;
-use outcome::Frame;
-use outcome::MbAnswer;
-use outcome::cursor_by;
-use parsing::parse::PlaceAnswer;
-use parsing::parse::parse_place;
-use questions::Call;
+use state::Call;
+use state::Cursor;
+use state::Frame;
+use thin::moved::MbMoved;
+use thin::moved::decode_moved;
+use transcript::check::RecordAnswer;
+use transcript::check::check_record;
+use transcript::parse::PlaceAnswer;
+use transcript::parse::parse_place;
 
 fn call_of(head: &[u8; 80]) -> Call {
     Call {

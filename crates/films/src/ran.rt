@@ -4,12 +4,12 @@ use crate::bytes::number_at;
 use crate::bytes::short_at;
 use crate::head::frame_of;
 use crate::head::refused;
-use moved::RunMoved;
-use moved::run_moved;
-use outcome::Frame;
-use report::Stop;
+use run::Stop;
 use run::run::run;
+use state::Frame;
 use thin::cursor_of;
+use thin::moved::RunMoved;
+use thin::moved::run_moved;
 
 fn stopped(stop: Stop, head: &[u8; 80]) -> bool {
     match stop {

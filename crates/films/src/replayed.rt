@@ -2,10 +2,10 @@
 use crate::bytes::number_at;
 use crate::bytes::wide;
 use crate::head::frame_of;
-use checking::CheckAnswer;
-use checking::check_transcript;
 use replay::ReplayAnswer;
 use replay::replay::replay;
+use transcript::check::CheckAnswer;
+use transcript::check::check_transcript;
 
 // The number of the expected refusal, or 0. In a run's head it stands apart from the run's own.
 fn expected_number(head: &[u8; 80]) -> u32 {

@@ -5,9 +5,9 @@ ghost use lib.ListN.{length};
 use crate::bytes::signed_at;
 use crate::bytes::wide;
 use picture::rows::store_row;
-use quadrant::four::add_chroma_blocks;
-use quadrant::four::add_chroma_dc_blocks;
-use quadrant::four::add_luma_quadrant;
+use transform::four::add_chroma_blocks;
+use transform::four::add_chroma_dc_blocks;
+use transform::four::add_luma_quadrant;
 use transform::svq3_dequant::dequantize_chroma_dc_levels;
 
 // n levels of the bytes given from `from` on, stored from `to` on.

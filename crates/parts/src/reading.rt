@@ -10,10 +10,10 @@ use crate::bytes::long_at;
 use crate::bytes::wide;
 use bits::svq3::CodeAnswer;
 use bits::svq3_mv::SignedAnswer;
-use residual::svq3_cbp::CbpAnswer;
-use residual::svq3_coeff::LevelRun;
-use residual::svq3_coeff::ListAnswer;
-use residual::svq3_coeff::ResidualBook;
+use levels::svq3_cbp::CbpAnswer;
+use levels::svq3_coeff::LevelRun;
+use levels::svq3_coeff::ListAnswer;
+use levels::svq3_coeff::ResidualBook;
 use vectors::svq3_mb::PrecisionAnswer;
 
 fn code_agrees(head: &[u8; 32], bits: &[u8], values: &[u8], at: usize) -> bool

@@ -9,24 +9,24 @@ use Rattle.bits.specs.Code.{codeFrom, code}
 use Rattle.bits.specs.Signed.{signedOf, signedCode}
 use Rattle.number.specs.Number.{groups, number, lowThen, readNumber}
 use Rattle.number.specs.SignedNumber.{sent, received, signedNumber, readSigned}
-use Rattle.residual.specs.Pattern.{patterns, pattern, quadrantCoded}
+use Rattle.levels.specs.Pattern.{patterns, pattern, quadrantCoded}
 use Rattle.vectors.specs.Modes.{partitionWidth, partitionHeight, numMotionVectors, offsetX, offsetY}
 use Rattle.vectors.specs.Precision.{precision}
-use Rattle.predict.specs.Predict.{cellAt, nearAt, leftOf, aboveOf, aboveLeftOf, medianOf, combined, predicted, heldIn, predictor}
-use Rattle.predict.specs.Units.{roundToSixths, convertPredictor, summed, scaled, storedPart, clippedPart}
-use Rattle.lists.specs.Until.{untilEnd}
+use Rattle.vectors.specs.Predict.{cellAt, nearAt, leftOf, aboveOf, aboveLeftOf, medianOf, combined, predicted, heldIn, predictor}
+use Rattle.vectors.specs.Units.{roundToSixths, convertPredictor, summed, scaled, storedPart, clippedPart}
+use Rattle.refusal.specs.Until.{untilEnd}
 use Rattle.record.specs.Record.{noVectors, noLevels, skipRecord}
 use Rattle.record.specs.Items.{itemCoded, readLists, writeLists, readItems}
 use Rattle.record.specs.Write.{signedNumbers, itemBytes, itemsBytes, restBytes, recordBytes}
 use Rattle.record.specs.Parse.{field, readSigneds, parseItems, parseResidual, parseMotion, parseRecord}
-use Rattle.questions.specs.Questions.{gridRight, planesRight, stateRight, referenceThere, callRight, placeIn, askStart, askQuantiser, askPlace, askRest, askCall, askRun}
-use Rattle.calls.specs.Calls.{callIn}
-use Rattle.checking.specs.Records.{recordsIn, records}
+use Rattle.state.specs.Questions.{gridRight, planesRight, stateRight, referenceThere, callRight, placeIn, askStart, askQuantiser, askPlace, askRest, askCall, askRun}
+use Rattle.run.specs.Calls.{callIn}
+use Rattle.transcript.specs.Records.{recordsIn, records}
 use Rattle.reading.specs.Read.{predictorAt, moved, readVectors, quantiserIn, readQuantiser, recordOf, atFirst, readResidual, readCoded, readMacroblock}
-use Rattle.outcome.specs.Decode.{outcomeOf, decoded}
-use Rattle.report.specs.Run.{ended, withCall, ranFrom, ran, transcriptOf}
-use Rattle.lines.specs.Text.{hexDigit, hexBytes, digits, decimal, line, hexLine, countLine, bitsLine, refusedLine}
-use Rattle.header.specs.Header.{ranged, headerIn, callsFrom}
+use Rattle.macroblock.specs.Decode.{outcomeOf, decoded}
+use Rattle.run.specs.Run.{ended, withCall, ranFrom, ran, transcriptOf}
+use Rattle.printing.specs.Text.{hexDigit, hexBytes, digits, decimal, line, hexLine, countLine, bitsLine, refusedLine}
+use Rattle.printing.specs.Header.{ranged, headerIn, callsFrom}
 use Rattle.printing.specs.Print.{start, room, recordLines, printedRun, printed}
 
 -- `bits 0`, `refused 5`, `refused 14`, `refused 15`

@@ -8,16 +8,16 @@ use lib.ListN.{length, take, drop, length-drop}
 use lib.Seq.{take-all, drop-drop}
 use Rattle.refusal.specs.Got.{Got, got, refused}
 use Rattle.refusal.specs.declared.Refusal.{Refusal}
-use Rattle.questions.specs.declared.Call.{Call}
-use Rattle.calls.specs.Calls.{calls}
-use Rattle.report.specs.Run.{ranOf, ranList}
-use Rattle.lines.specs.Text.{refusedLine}
-use Rattle.header.specs.Header.{headerIn, callsFrom, HeaderRange, headerAnswer, listEnd}
+use Rattle.state.specs.declared.Call.{Call}
+use Rattle.run.specs.Calls.{calls}
+use Rattle.run.specs.Run.{ranOf, ranList}
+use Rattle.printing.specs.Text.{refusedLine}
+use Rattle.printing.specs.Header.{headerIn, callsFrom, HeaderRange, headerAnswer, listEnd}
 use Rattle.printing.specs.Print.{start, room, printedRun, printedCalls, printedHeader, printed}
-use Rattle.header.specs.declared.Header.{Header}
-use Rattle.header.specs.declared.HeaderAnswer.the-variants as header
-use Rattle.header.specs.declared.ListEnd.the-variants as list
-use Rattle.header.proofs.Lists.{header-local, header-range, calls-local, calls-of}
+use Rattle.printing.specs.declared.header.Header.{Header}
+use Rattle.printing.specs.declared.header.HeaderAnswer.the-variants as header
+use Rattle.printing.specs.declared.header.ListEnd.the-variants as list
+use Rattle.printing.proofs.Lists.{header-local, header-range, calls-local, calls-of}
 
 -- what the answers say of the definitions
 header-answered : (g : Got Header) {h : Header} {at : ℕ} → header.Header h at ≡ headerAnswer 0 g → g ≡ got h at

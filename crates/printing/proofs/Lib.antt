@@ -1,3 +1,6 @@
+pub mod Headers
+pub mod Lists
+pub mod Texts
 pub mod Lines
 pub mod Runs
 pub mod Starts

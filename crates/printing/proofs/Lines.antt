@@ -8,23 +8,23 @@ use lib.ListN.{length, take, drop, length-drop, length-append}
 use Rattle.refusal.specs.Got.{got}
 use Rattle.refusal.specs.declared.Refusal.{Refusal}
 use Rattle.refusal.proofs.Formats.{got-count, never, exactly}
-use Rattle.lists.proofs.Laws.{Next}
+use Rattle.refusal.proofs.Lists.{Next}
 use Rattle.record.specs.Record.{Record}
 use Rattle.record.specs.Write.{recordBytes}
 use Rattle.record.specs.Parse.{parseRecord}
 use Rattle.record.proofs.Records.{record-format}
-use Rattle.transcript.specs.Answers.{Written}
+use Rattle.transcript.specs.InnerWritten.{Written}
 use Rattle.transcript.proofs.Writing.{Still, still-all, still-more, still-fits, still-none}
-use Rattle.checking.specs.Records.{records}
-use Rattle.checking.specs.Check.{recordAnswer}
-use Rattle.checking.specs.declared.RecordAnswer.the-variants as one
-use Rattle.checking.proofs.Laws.{records-none, records-first, records-next, record-read, not-record}
+use Rattle.transcript.specs.Records.{records}
+use Rattle.transcript.specs.Check.{recordAnswer}
+use Rattle.transcript.specs.declared.check.RecordAnswer.the-variants as one
+use Rattle.transcript.proofs.Checks.{records-none, records-first, records-next, record-read, not-record}
 use Rattle.replay.specs.Recorded.{Recorded}
-use Rattle.lines.specs.Text.{hexBytes, hexLine, line, bitsLine}
+use Rattle.printing.specs.Text.{hexBytes, hexLine, line, bitsLine}
 use Rattle.printing.specs.Print.{recordLines, linesOf, stopLines}
-use Rattle.lines.proofs.Texts.{line-length, bits-length, refused-length}
-use Rattle.report.specs.declared.Stop.{Stop}
-use Rattle.report.specs.declared.Stop.the-variants.{Done, By}
+use Rattle.printing.proofs.Texts.{line-length, bits-length, refused-length}
+use Rattle.run.specs.declared.Stop.{Stop}
+use Rattle.run.specs.declared.Stop.the-variants.{Done, By}
 
 -- ---- what is left: the transcript is read up to i, and the lines of what follows are still to be written at p
 pub record Going (cols rows : ℕ) (t : List ℕ) (out₀ : List ℕ) (at : ℕ) (out : List ℕ) (p i : ℕ) : Type 0 where

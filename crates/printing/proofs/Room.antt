@@ -21,10 +21,10 @@ use Rattle.refusal.proofs.Local.{apart}
 use Rattle.bits.specs.Bits.{bitList}
 use Rattle.bits.specs.Code.{bitValue, codeFrom, code}
 use Rattle.bits.specs.Signed.{signedOf, signedCode}
-use Rattle.lists.proofs.Laws.{mapped}
-use Rattle.residual.specs.Levels.{block}
-use Rattle.residual.specs.Pattern.{patterns, keep, pattern}
-use Rattle.residual.proofs.Ranges.{Refuses, cut, long, past, block-refuses}
+use Rattle.refusal.proofs.Lists.{mapped}
+use Rattle.levels.specs.Levels.{block}
+use Rattle.levels.specs.Pattern.{patterns, keep, pattern}
+use Rattle.levels.proofs.Ranges.{Refuses, cut, long, past, block-refuses}
 use Rattle.vectors.specs.Modes.{numMotionVectors}
 use Rattle.vectors.specs.Precision.{bothFlags, oneFlag, precision}
 use Rattle.vectors.specs.declared.svq3_mb.Svq3MvPrecision.{Svq3MvPrecision}
@@ -33,22 +33,22 @@ use Rattle.record.specs.Items.{itemCoded, itemBook, itemStart, itemPlace, readL
 use Rattle.record.specs.Write.{recordBytes}
 use Rattle.record.proofs.ListKinds.{start-fits}
 use Rattle.record.proofs.Lengths.{record-length, head-range}
-use Rattle.questions.specs.Questions.{thenAsk, gridRight, planesRight, stateRight, referenceThere, callRight, placeIn, askStart, askQuantiser, askPlace, askRest, askCall, askRun}
-use Rattle.questions.specs.declared.Call.{Call}
-use Rattle.questions.specs.declared.Asked.{Asked}
-use Rattle.questions.specs.declared.Asked.the-variants.{Yes, No}
-use Rattle.calls.specs.Calls.{callIn}
-use Rattle.reading.specs.Read.{Context, Moving, moved, readVectors, quantiserIn, readQuantiser, recordOf, atFirst, readResidual, readCoded, readMacroblock}
-use Rattle.outcome.specs.State.{State, contextOf, lengthsOf}
-use Rattle.outcome.specs.Decode.{applied, Outcome, kept, outcomeOf, unlessRefused, decoded}
-use Rattle.outcome.specs.declared.MbAnswer.{MbAnswer}
-use Rattle.outcome.specs.declared.MbAnswer.the-variants.{Refused}
-use Rattle.report.specs.Run.{Ran, ended, withCall, onward, ranFrom, ran, stopOf}
-use Rattle.report.specs.declared.Stop.the-variants.{By}
+use Rattle.state.specs.Questions.{thenAsk, gridRight, planesRight, stateRight, referenceThere, callRight, placeIn, askStart, askQuantiser, askPlace, askRest, askCall, askRun}
+use Rattle.state.specs.declared.Call.{Call}
+use Rattle.state.specs.declared.Asked.{Asked}
+use Rattle.state.specs.declared.Asked.the-variants.{Yes, No}
+use Rattle.run.specs.Calls.{callIn}
+use Rattle.state.specs.State.{Context, State, contextOf, lengthsOf}
+use Rattle.reading.specs.Read.{Moving, moved, readVectors, quantiserIn, readQuantiser, recordOf, atFirst, readResidual, readCoded, readMacroblock}
+use Rattle.macroblock.specs.Decode.{applied, Outcome, kept, outcomeOf, unlessRefused, decoded}
+use Rattle.macroblock.specs.declared.MbAnswer.{MbAnswer}
+use Rattle.macroblock.specs.declared.MbAnswer.the-variants.{Refused}
+use Rattle.run.specs.Run.{Ran, ended, withCall, onward, ranFrom, ran, stopOf}
+use Rattle.run.specs.declared.Stop.the-variants.{By}
 use Rattle.theorems.proofs.Traces.{Kind, no, yes, kind, path-range}
-use Rattle.header.specs.Header.{HeaderRange, callsFrom}
+use Rattle.printing.specs.Header.{HeaderRange, callsFrom}
 use Rattle.printing.specs.Print.{start, room}
-use Rattle.header.specs.declared.Header.{Header}
+use Rattle.printing.specs.declared.header.Header.{Header}
 
 -- ---- no reader refuses by 8
 abbrev Never : {E X : Type 0} → (List E → Got X) → Type 0

@@ -8,22 +8,22 @@ use lib.ListN.{length, take, drop, replicate, length-replicate}
 use lib.Seq.{sets, length-sets, length-take-le}
 use Rattle.refusal.specs.Got.{Got, got, refused}
 use Rattle.bits.specs.Bits.{bitList}
-use Rattle.questions.specs.declared.Call.{Call}
-use Rattle.calls.specs.Calls.{calls}
+use Rattle.state.specs.declared.Call.{Call}
+use Rattle.run.specs.Calls.{calls}
 use Rattle.record.specs.Record.{Record}
 use Rattle.record.specs.Write.{recordBytes}
 use Rattle.record.proofs.Lengths.{record-length, head-range}
-use Rattle.checking.specs.Records.{records}
-use Rattle.outcome.specs.State.{State}
-use Rattle.outcome.specs.Decode.{applied, Outcome, outcomeOf, decoded}
-use Rattle.report.specs.Run.{Ran, ended, withCall, onward, ranFrom, ran, ranOf, ranList, transcriptOf}
+use Rattle.transcript.specs.Records.{records}
+use Rattle.state.specs.State.{State}
+use Rattle.macroblock.specs.Decode.{applied, Outcome, outcomeOf, decoded}
+use Rattle.run.specs.Run.{Ran, ended, withCall, onward, ranFrom, ran, ranOf, ranList, transcriptOf}
 use Rattle.replay.specs.Recorded.{Recorded}
-use Rattle.report.specs.declared.Stop.the-variants.{Done, By}
-use Rattle.report.specs.Left.{listLeft, leaves}
-use Rattle.report.specs.declared.Report.{Report}
-use Rattle.lines.specs.Text.{bitsLine}
+use Rattle.run.specs.declared.Stop.the-variants.{Done, By}
+use Rattle.run.specs.Left.{listLeft, leaves}
+use Rattle.run.specs.declared.Report.{Report}
+use Rattle.printing.specs.Text.{bitsLine}
 use Rattle.printing.specs.Print.{start, room, linesOf, stopLines, printedRun}
-use Rattle.header.specs.declared.Header.{Header}
+use Rattle.printing.specs.declared.header.Header.{Header}
 use Rattle.theorems.specs.Trace.{bytesOf}
 use Rattle.theorems.proofs.Traces.{Kind, no, yes, kind, path-range}
 use Rattle.theorems.proofs.Paths.{path-ranged}

@@ -8,13 +8,13 @@ use native.Mathlib.Omega.{arith}
 use lib.IntN.{ℤ, pos}
 use lib.ListN.{length, take, replicate, length-replicate}
 use Rattle.record.proofs.Sets.{part-of-same}
-use Rattle.outcome.specs.State.{State}
-use Rattle.outcome.specs.Entry.{stateOf}
-use Rattle.outcome.specs.declared.Frame.{Frame}
-use Rattle.report.specs.Left.{Left, listLeft}
-use Rattle.header.specs.Header.{HeaderRange, frameOf}
+use Rattle.state.specs.State.{State}
+use Rattle.macroblock.specs.Entry.{stateOf}
+use Rattle.state.specs.declared.Frame.{Frame}
+use Rattle.run.specs.Left.{Left, listLeft}
+use Rattle.printing.specs.Header.{HeaderRange, frameOf}
 use Rattle.printing.specs.Print.{start}
-use Rattle.header.specs.declared.Header.{Header}
+use Rattle.printing.specs.declared.header.Header.{Header}
 
 pub grid-most : (h : Header) → HeaderRange h → h .cols * h .rows ≤ 16
 grid-most h r = mul-le-mul (r .cols) (r .rows)

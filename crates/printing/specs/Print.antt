@@ -7,19 +7,19 @@ use lib.IntN.{pos}
 use lib.ListN.{drop, replicate}
 use Rattle.refusal.specs.Got.{Got, got, refused}
 use Rattle.picture.specs.Picture.{lumaLength, chromaLength, cellCount}
-use Rattle.questions.specs.declared.Call.{Call}
+use Rattle.state.specs.declared.Call.{Call}
 use Rattle.record.specs.Record.{Record}
 use Rattle.record.specs.Write.{recordBytes}
-use Rattle.checking.specs.Records.{records}
-use Rattle.outcome.specs.State.{State}
-use Rattle.outcome.specs.Entry.{stateOf}
-use Rattle.outcome.specs.declared.Frame.{Frame}
-use Rattle.report.specs.Run.{Ran, ran, transcriptOf}
-use Rattle.report.specs.declared.Stop.{Stop}
-use Rattle.report.specs.declared.Stop.the-variants.{Done, By}
-use Rattle.lines.specs.Text.{hexLine, bitsLine, refusedLine}
-use Rattle.header.specs.Header.{headerIn, callsFrom, frameOf}
-use Rattle.header.specs.declared.Header.{Header}
+use Rattle.transcript.specs.Records.{records}
+use Rattle.state.specs.State.{State}
+use Rattle.macroblock.specs.Entry.{stateOf}
+use Rattle.state.specs.declared.Frame.{Frame}
+use Rattle.run.specs.Run.{Ran, ran, transcriptOf}
+use Rattle.run.specs.declared.Stop.{Stop}
+use Rattle.run.specs.declared.Stop.the-variants.{Done, By}
+use Rattle.printing.specs.Text.{hexLine, bitsLine, refusedLine}
+use Rattle.printing.specs.Header.{headerIn, callsFrom, frameOf}
+use Rattle.printing.specs.declared.header.Header.{Header}
 
 -- the reference is 128; the picture, the vectors and the marks are 0
 unfoldable pub start : Header → State

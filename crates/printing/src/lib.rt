@@ -1,2 +1,4 @@
-// What the printer program prints, as a function on bytes.
+// The printer: its input, its lines, what it prints.
+pub mod header;
 pub mod print;
+pub mod text;

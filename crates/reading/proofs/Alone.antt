@@ -9,13 +9,14 @@ use Rattle.refusal.specs.Got.{Got, got, refused}
 use Rattle.refusal.proofs.Local.{Local, of-format, of-got, of-refused, then-local, map-local}
 use Rattle.bits.specs.Signed.{signedCode}
 use Rattle.bits.proofs.SignedCode.{signed-format}
-use Rattle.residual.proofs.Patterns.{pattern-format}
+use Rattle.levels.proofs.Patterns.{pattern-format}
 use Rattle.vectors.specs.Modes.{numMotionVectors}
 use Rattle.vectors.proofs.Precisions.{precision-format}
 use Rattle.vectors.specs.declared.svq3_mb.Svq3MvPrecision.{Svq3MvPrecision}
-use Rattle.questions.specs.declared.Call.{Call}
+use Rattle.state.specs.declared.Call.{Call}
 use Rattle.record.proofs.Blocks.{items-format}
-use Rattle.reading.specs.Read.{Context, Moving, moved, readVectors, quantiserIn, readQuantiser, recordOf, atFirst, readResidual, readCoded, readMacroblock}
+use Rattle.state.specs.State.{Context}
+use Rattle.reading.specs.Read.{Moving, moved, readVectors, quantiserIn, readQuantiser, recordOf, atFirst, readResidual, readCoded, readMacroblock}
 
 pub if-local : {E X : Type 0} {f g : List E → Got X} (t : Bool) → Local f → Local g → Local (λ s. if t then f s else g s)
 unfolding if_then_else_

@@ -11,11 +11,11 @@ use Rattle.refusal.specs.declared.Refusal.the-variants.{InvalidQuantiser}
 use Rattle.bits.specs.Bits.{bitList}
 use Rattle.bits.specs.Code.{codeFrom, code}
 use Rattle.bits.specs.Signed.{signedOf, signedCode}
-use Rattle.residual.specs.Pattern.{patterns, pattern, quadrantCoded}
+use Rattle.levels.specs.Pattern.{patterns, pattern, quadrantCoded}
 use Rattle.vectors.specs.Modes.{partitionWidth, partitionHeight, numMotionVectors, offsetX, offsetY}
 use Rattle.vectors.specs.Precision.{precision}
-use Rattle.predict.specs.Predict.{cellAt, nearAt, leftOf, aboveOf, aboveLeftOf, medianOf, combined, predicted, heldIn, predictor}
-use Rattle.predict.specs.Units.{roundToSixths, convertPredictor, summed, scaled, storedPart, clippedPart}
+use Rattle.vectors.specs.Predict.{cellAt, nearAt, leftOf, aboveOf, aboveLeftOf, medianOf, combined, predicted, heldIn, predictor}
+use Rattle.vectors.specs.Units.{roundToSixths, convertPredictor, summed, scaled, storedPart, clippedPart}
 use Rattle.record.specs.Record.{noVectors, noLevels}
 use Rattle.record.specs.Items.{itemCoded, readLists, readItems}
 use Rattle.record.proofs.Examples.{printed}

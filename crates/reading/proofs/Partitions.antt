@@ -7,12 +7,13 @@ use lib.IntN.{ℤ, natAbs}
 use lib.ListN.{set}
 use Rattle.bits.specs.Code.{bitValue}
 use Rattle.vectors.specs.Modes.{partitionWidth, partitionHeight, numMotionVectors, offsetX, offsetY}
-use Rattle.predict.specs.Predict.{Field, predictor}
-use Rattle.predict.specs.Units.{storedPart, clippedPart}
-use Rattle.predict.specs.Stored.{storedField}
-use Rattle.predict.specs.Window.{Seen, Part, Follows, cornerPairs, cornerMarks}
-use Rattle.predict.specs.declared.svq3_frame.Vector.{Vector}
-use Rattle.predict.proofs.Following.{part-of, follows-held, follows-stored}
+use Rattle.picture.specs.Field.{Field}
+use Rattle.vectors.specs.Predict.{predictor}
+use Rattle.vectors.specs.Units.{storedPart, clippedPart}
+use Rattle.vectors.specs.Stored.{storedField}
+use Rattle.vectors.specs.Window.{Seen, Part, Follows, cornerPairs, cornerMarks}
+use Rattle.vectors.specs.declared.svq3_frame.Vector.{Vector}
+use Rattle.vectors.proofs.Following.{part-of, follows-held, follows-stored}
 use Rattle.reading.specs.Read.{Moving, moved, predictorAt, storedAt}
 use Rattle.reading.specs.Answers.{InGrid, Holds}
 use Rattle.reading.specs.declared.svq3_frame.Motion.{Motion}

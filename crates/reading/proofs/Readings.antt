@@ -12,23 +12,24 @@ use Rattle.refusal.specs.Got.{Got, got, refused, after, andThen, mapGot}
 use Rattle.refusal.specs.declared.Refusal.{Refusal}
 use Rattle.refusal.proofs.Formats.{got-value, never}
 use Rattle.bits.proofs.Answers.{Answered}
-use Rattle.residual.specs.Pattern.{pattern, patternAnswer}
-use Rattle.residual.specs.declared.svq3_cbp.CbpAnswer.the-variants as cbp
-use Rattle.residual.specs.declared.svq3_coeff.ListAnswer.{ListAnswer}
-use Rattle.residual.specs.declared.svq3_coeff.ListAnswer.the-variants as list
-use Rattle.residual.proofs.Answers.{pattern-answered, pattern-refused-by}
+use Rattle.levels.specs.Pattern.{pattern, patternAnswer}
+use Rattle.levels.specs.declared.svq3_cbp.CbpAnswer.the-variants as cbp
+use Rattle.levels.specs.declared.svq3_coeff.ListAnswer.{ListAnswer}
+use Rattle.levels.specs.declared.svq3_coeff.ListAnswer.the-variants as list
+use Rattle.levels.proofs.Answers.{pattern-answered, pattern-refused-by}
 use Rattle.vectors.specs.Modes.{numMotionVectors}
 use Rattle.vectors.specs.Precision.{precision, precisionNumber, precisionAnswer}
 use Rattle.vectors.specs.declared.svq3_mb.Svq3MvPrecision.{Svq3MvPrecision}
 use Rattle.vectors.specs.declared.svq3_mb.PrecisionAnswer.the-variants as precise
 use Rattle.vectors.proofs.Answers.{precision-answered, precision-refused}
-use Rattle.questions.specs.declared.Call.{Call}
+use Rattle.state.specs.declared.Call.{Call}
 use Rattle.record.specs.Record.{Record, noLevels}
 use Rattle.record.specs.Items.{readItems}
 use Rattle.record.specs.Answers.{Left}
 use Rattle.record.specs.declared.Head.{Head}
 use Rattle.record.proofs.Answers.{ended, refused-by}
-use Rattle.reading.specs.Read.{Context, Moving, readVectors, readQuantiser, recordOf, atFirst, readResidual, readCoded}
+use Rattle.state.specs.State.{Context}
+use Rattle.reading.specs.Read.{Moving, readVectors, readQuantiser, recordOf, atFirst, readResidual, readCoded}
 use Rattle.reading.specs.Answers.{quantiserAnswer, readAnswer, Vectoring, Reading}
 use Rattle.reading.specs.declared.svq3_frame.QuantiserAnswer.the-variants as quantiser
 use Rattle.reading.specs.declared.svq3_frame.VectorsAnswer.{VectorsAnswer}

@@ -15,7 +15,7 @@ use Rattle.refusal.proofs.Formats.{got-value, never}
 use Rattle.bits.specs.Signed.{signedCode, signedAnswer}
 use Rattle.bits.specs.declared.svq3_mv.SignedAnswer.the-variants as signed
 use Rattle.bits.proofs.Answers.{Answered, signed-answered, signed-refused}
-use Rattle.residual.proofs.Gots.{after-zero, after-after}
+use Rattle.levels.proofs.Gots.{after-zero, after-after}
 use Rattle.reading.specs.Read.{Moving, moved, readVectors}
 use Rattle.reading.specs.Answers.{vectorsAnswer, Holds, Stepping, Vectoring}
 use Rattle.reading.specs.declared.svq3_frame.Motion.{Motion}

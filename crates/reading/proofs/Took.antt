@@ -14,19 +14,20 @@ use Rattle.ints.specs.Z.{if_then_else_}
 use Rattle.refusal.specs.Got.{Got, got, refused, andThen, mapGot}
 use Rattle.refusal.proofs.Formats.{got-value, got-count, never}
 use Rattle.refusal.proofs.Local.{apart, Took, took-none, took-format, took-then}
-use Rattle.residual.specs.Pattern.{pattern, patternBits}
-use Rattle.residual.proofs.Patterns.{pattern-format}
+use Rattle.levels.specs.Pattern.{pattern, patternBits}
+use Rattle.levels.proofs.Patterns.{pattern-format}
 use Rattle.vectors.specs.Modes.{numMotionVectors}
 use Rattle.vectors.specs.Precision.{precision, precisionNumber, precisionBits, precisionOf}
 use Rattle.vectors.proofs.Precisions.{precision-format, of-number, number-most}
 use Rattle.vectors.proofs.Partitions.{num-most}
 use Rattle.vectors.specs.declared.svq3_mb.Svq3MvPrecision.{Svq3MvPrecision}
-use Rattle.questions.specs.declared.Call.{Call}
+use Rattle.state.specs.declared.Call.{Call}
 use Rattle.record.specs.Record.{Record, noVectors, noLevels, skipRecord}
 use Rattle.record.specs.Items.{readItems, itemsBits}
 use Rattle.record.specs.Range.{VectorsRange, CodedRange, RecordRange}
 use Rattle.record.proofs.Blocks.{items-format, said}
-use Rattle.reading.specs.Read.{Context, Moving, readVectors, readQuantiser, recordOf, atFirst, readResidual, readCoded, readMacroblock}
+use Rattle.state.specs.State.{Context}
+use Rattle.reading.specs.Read.{Moving, readVectors, readQuantiser, recordOf, atFirst, readResidual, readCoded, readMacroblock}
 use Rattle.reading.specs.Bits.{callOf, vectorBits, quantiserBits, codedBits, bitsOf}
 use Rattle.reading.proofs.Vectors.{Grown, grown, vectors-took}
 use Rattle.reading.proofs.Quantiser.{quantiser-most, quantiser-took}

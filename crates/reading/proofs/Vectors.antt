@@ -17,13 +17,13 @@ use Rattle.refusal.proofs.Local.{apart, Took, took-none, took-format, took-then
 use Rattle.bits.specs.Code.{bitValue}
 use Rattle.bits.specs.Signed.{signedCode, signedBits}
 use Rattle.bits.proofs.SignedCode.{signed-format}
-use Rattle.predict.specs.Predict.{Field}
-use Rattle.predict.specs.Units.{storedPart, clippedPart}
-use Rattle.predict.specs.Difference.{differenceOf}
-use Rattle.predict.proofs.Moves.{stored-fits, difference-back}
+use Rattle.picture.specs.Field.{Field}
+use Rattle.vectors.specs.Units.{storedPart, clippedPart}
+use Rattle.vectors.specs.Difference.{differenceOf}
+use Rattle.vectors.proofs.Moves.{stored-fits, difference-back}
 use Rattle.vectors.specs.declared.svq3_mb.Svq3MvPrecision.{Svq3MvPrecision}
-use Rattle.predict.specs.declared.svq3_frame.Vector.{Vector}
-use Rattle.questions.specs.declared.Call.{Call}
+use Rattle.vectors.specs.declared.svq3_frame.Vector.{Vector}
+use Rattle.state.specs.declared.Call.{Call}
 use Rattle.reading.specs.Read.{Moving, moved, predictorAt, storedAt, readVectors}
 use Rattle.reading.specs.Bits.{vectorBits}
 

@@ -6,12 +6,13 @@ use Prim.Native.Nat.{ℕ, _+_, _/_, _≤_}
 use lib.IntN.{ℤ}
 use Rattle.refusal.specs.Got.{Got, got, refused}
 use Rattle.vectors.specs.Modes.{partitionWidth, partitionHeight}
-use Rattle.predict.specs.Predict.{fieldOf}
-use Rattle.predict.specs.Window.{Follows}
+use Rattle.picture.specs.Field.{fieldOf}
+use Rattle.vectors.specs.Window.{Follows}
 use Rattle.picture.specs.Picture.{Within}
 use Rattle.record.specs.Record.{Record}
-use Rattle.reading.specs.Read.{Context, Moving}
-use Rattle.reading.specs.declared.svq3_frame.Flags.{Flags}
+use Rattle.state.specs.State.{Context}
+use Rattle.reading.specs.Read.{Moving}
+use Rattle.state.specs.declared.Flags.{Flags}
 use Rattle.reading.specs.declared.svq3_frame.Motion.{Motion}
 use Rattle.reading.specs.declared.svq3_frame.QuantiserAnswer.{QuantiserAnswer}
 use Rattle.reading.specs.declared.svq3_frame.QuantiserAnswer.the-variants as quantiser

@@ -8,16 +8,17 @@ use lib.IntN.{ℤ, pos, _-ℤ_}
 use lib.ListN.{getD}
 use Rattle.ints.specs.Z.{if_then_else_}
 use Rattle.bits.specs.Signed.{signedBits}
-use Rattle.residual.specs.Pattern.{patternBits}
+use Rattle.levels.specs.Pattern.{patternBits}
 use Rattle.vectors.specs.Modes.{numMotionVectors}
 use Rattle.vectors.specs.Precision.{precisionBits, precisionOf}
-use Rattle.predict.specs.Predict.{Field}
-use Rattle.predict.specs.Difference.{differenceOf}
+use Rattle.picture.specs.Field.{Field}
+use Rattle.vectors.specs.Difference.{differenceOf}
 use Rattle.vectors.specs.declared.svq3_mb.Svq3MvPrecision.{Svq3MvPrecision}
-use Rattle.questions.specs.declared.Call.{Call}
+use Rattle.state.specs.declared.Call.{Call}
 use Rattle.record.specs.Record.{Record}
 use Rattle.record.specs.Items.{itemsBits}
-use Rattle.reading.specs.Read.{Context, predictorAt, storedAt}
+use Rattle.state.specs.State.{Context}
+use Rattle.reading.specs.Read.{predictorAt, storedAt}
 
 abbrev pub callOf : Record → Call
 callOf r = record { column = r .head .column; row = r .head .row; mode = r .head .mode }

@@ -12,28 +12,21 @@ use Rattle.refusal.specs.Got.{Got, got, refused, andThen, mapGot}
 use Rattle.refusal.specs.declared.Refusal.the-variants.{InvalidQuantiser}
 use Rattle.bits.specs.Code.{bitValue}
 use Rattle.bits.specs.Signed.{signedCode}
-use Rattle.residual.specs.Pattern.{pattern}
+use Rattle.levels.specs.Pattern.{pattern}
 use Rattle.vectors.specs.Modes.{partitionWidth, partitionHeight, numMotionVectors, offsetX, offsetY}
 use Rattle.vectors.specs.Precision.{precision, precisionNumber}
-use Rattle.predict.specs.Predict.{Field, predictor}
-use Rattle.predict.specs.Units.{storedPart, clippedPart}
-use Rattle.predict.specs.Stored.{storedField}
+use Rattle.picture.specs.Field.{Field}
+use Rattle.vectors.specs.Predict.{predictor}
+use Rattle.vectors.specs.Units.{storedPart, clippedPart}
+use Rattle.vectors.specs.Stored.{storedField}
 use Rattle.vectors.specs.declared.svq3_mb.Svq3MvPrecision.{Svq3MvPrecision}
-use Rattle.predict.specs.declared.svq3_frame.Vector.{Vector}
-use Rattle.questions.specs.declared.Call.{Call}
+use Rattle.vectors.specs.declared.svq3_frame.Vector.{Vector}
+use Rattle.state.specs.declared.Call.{Call}
 use Rattle.record.specs.Record.{Record, noVectors, noLevels, skipRecord}
 use Rattle.record.specs.Items.{readItems}
-
--- what reading depends on beside the bits: the vectors and marks, the flags and the quantiser
-pub record Context : Type 0 where
-  pub field : Field
-  pub halfpel : Bool
-  pub thirdpel : Bool
-  pub delta : Bool
-  pub quantiser : ℕ
+use Rattle.state.specs.State.{Context}
 
 -- ---- the vectors, partition by partition
-
 -- the first cell of partition i in the picture, and its size in cells
 abbrev pub cellX : Call → ℕ → ℕ
 cellX call i = 4 * call .column + offsetX (call .mode) i / 4
@@ -82,7 +75,6 @@ readVectors call p (suc n) i m s =
     readVectors call p n (suc i) (moved call p i m dy dx) s₂))
 
 -- ---- the quantiser
-
 -- 0 to 31, else refused with its exact value
 unfoldable pub quantiserIn : ℤ → Got ℕ
 quantiserIn q = if not (ltZ q (pos 0)) && ltZ q (pos 32) then got (natAbs q) 0 else refused (InvalidQuantiser q)
@@ -93,7 +85,6 @@ readQuantiser delta q pattern s =
     if not (eqb pattern 0) && delta then andThen (signedCode s) s (λ d rest. quantiserIn (pos q +ℤ d)) else got q 0
 
 -- ---- the macroblock
-
 unfoldable pub recordOf : Call → Svq3MvPrecision → Moving → ℕ → ℕ → List ℤ → Record
 recordOf call p m pattern q levels =
     record {

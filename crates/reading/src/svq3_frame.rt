@@ -5,7 +5,7 @@ ghost use lib.ListN.{length, drop};
 ghost use Rattle.bits.specs.Bits.{bitList};
 ghost use Rattle.bits.specs.Code.{bitValue};
 ghost use Rattle.picture.specs.Picture.{Within, cellCount};
-ghost use Rattle.predict.specs.Predict.{fieldOf};
+ghost use Rattle.picture.specs.Field.{fieldOf};
 ghost use Rattle.vectors.specs.Modes.{numMotionVectors};
 ghost use Rattle.record.specs.Record.{noVectors, noLevels};
 ghost use Rattle.reading.specs.Read.{Moving, moved, readVectors, readQuantiser, atFirst, readResidual, readCoded};
@@ -14,18 +14,16 @@ use bits::pair::PairAnswer;
 use bits::pair::read_signed_pair;
 use bits::svq3_mv::SignedAnswer;
 use bits::svq3_mv::read_signed_code;
-use predict::svq3_frame::Units;
-use predict::svq3_frame::move_component;
-use predict::window::load_neighbours;
-use predict::window::predict_mv;
-use predict::window::store_partition_in;
-use questions::Call;
+use levels::svq3_cbp::CbpAnswer;
+use levels::svq3_cbp::read_cbp_inter;
+use levels::svq3_coeff::ListAnswer;
 use record::Head;
 use record::items::read_items;
 use refusal::Refusal;
-use residual::svq3_cbp::CbpAnswer;
-use residual::svq3_cbp::read_cbp_inter;
-use residual::svq3_coeff::ListAnswer;
+use state::Call;
+use state::Flags;
+use vectors::svq3_frame::Units;
+use vectors::svq3_frame::move_component;
 use vectors::svq3_mb::PrecisionAnswer;
 use vectors::svq3_mb::Svq3MvPrecision;
 use vectors::svq3_mb::num_motion_vectors;
@@ -35,13 +33,9 @@ use vectors::svq3_mb::partition_offset_y;
 use vectors::svq3_mb::partition_width;
 use vectors::svq3_mb::precision_number;
 use vectors::svq3_mb::read_inter_mv_precision_p_frame;
-
-// What the sequence header and the slice header say of reading.
-pub struct Flags {
-    pub halfpel: bool,
-    pub thirdpel: bool,
-    pub delta: bool,
-}
+use vectors::window::load_neighbours;
+use vectors::window::predict_mv;
+use vectors::window::store_partition_in;
 
 pub enum ReadAnswer {
     // the record's numbers, and the place after it

@@ -8,7 +8,7 @@ use lib.IntN.{ℤ}
 use Rattle.refusal.specs.Got.{Got, got, refused}
 use Rattle.refusal.specs.declared.Refusal.{Refusal}
 use Rattle.refusal.proofs.Formats.{got-value, never}
-use Rattle.residual.specs.declared.svq3_coeff.ListAnswer.the-variants.{End, Refused}
+use Rattle.levels.specs.declared.svq3_coeff.ListAnswer.the-variants.{End, Refused}
 use Rattle.record.specs.Answers.{Left}
 
 -- it ended: the levels read are those left, and the place moved by what they took

@@ -12,13 +12,13 @@ use lib.Signed.{mag}
 use lib.ListN.{length, getD, take, List·getD-eq-default}
 use Rattle.refusal.specs.Format.{Format}
 use Rattle.number.proofs.Numbers.{lt-or-le}
-use Rattle.residual.specs.Book.{positions}
-use Rattle.residual.specs.Levels.{zeros, block, blockBits, BlockRange}
-use Rattle.residual.specs.declared.svq3_coeff.ResidualBook.{ResidualBook}
-use Rattle.residual.specs.declared.svq3_coeff.ResidualBook.the-variants.{NormalScan, ChromaDc}
-use Rattle.residual.proofs.Blocks.{block-format, ac-block}
-use Rattle.residual.proofs.Books.{most}
-use Rattle.residual.proofs.Ranges.{block-most}
+use Rattle.levels.specs.Book.{positions}
+use Rattle.levels.specs.Levels.{zeros, block, blockBits, BlockRange}
+use Rattle.levels.specs.declared.svq3_coeff.ResidualBook.{ResidualBook}
+use Rattle.levels.specs.declared.svq3_coeff.ResidualBook.the-variants.{NormalScan, ChromaDc}
+use Rattle.levels.proofs.Blocks.{block-format, ac-block}
+use Rattle.levels.proofs.Books.{most}
+use Rattle.levels.proofs.Ranges.{block-most}
 use Rattle.record.specs.Record.{noLevels}
 use Rattle.record.specs.Items.{itemBook, itemStart, itemCount, itemLevels, readItems, itemsBits}
 use Rattle.record.specs.Range.{ListsRange, ItemsRange, ItemRange, I32s}

@@ -11,7 +11,7 @@ use Rattle.refusal.specs.Got.{got, refused}
 use Rattle.refusal.specs.declared.Refusal.the-variants.{NumberForm, FieldRange}
 use Rattle.number.specs.Number.{groups, number, lowThen, readNumber}
 use Rattle.number.specs.SignedNumber.{sent, received, signedNumber, readSigned}
-use Rattle.residual.specs.Pattern.{quadrantCoded}
+use Rattle.levels.specs.Pattern.{quadrantCoded}
 use Rattle.vectors.specs.Modes.{numMotionVectors}
 use Rattle.record.specs.Record.{Record, skipRecord, noVectors, noLevels}
 use Rattle.record.specs.Items.{itemCoded, itemBook, itemStart, itemCount, itemPlace, itemLevels, readLists, writeLists}

@@ -17,7 +17,7 @@ use Rattle.number.specs.Number.{number}
 use Rattle.number.specs.SignedNumber.{SignedNumberRange}
 use Rattle.number.proofs.Numbers.{number-format}
 use Rattle.number.proofs.SignedNumbers.{signed-format}
-use Rattle.residual.specs.Levels.{zeros}
+use Rattle.levels.specs.Levels.{zeros}
 use Rattle.record.specs.Record.{noLevels}
 use Rattle.record.specs.Items.{itemStart, itemCount}
 use Rattle.record.specs.Write.{signedNumbers, itemBytes, itemsBytes}

@@ -12,12 +12,12 @@ use lib.Seq.{sets, drop-drop}
 use Rattle.refusal.specs.Got.{Got, got, refused, after, andThen, mapGot}
 use Rattle.refusal.specs.declared.Refusal.{Refusal}
 use Rattle.refusal.proofs.Formats.{got-value, never}
-use Rattle.residual.specs.Book.{positions}
-use Rattle.residual.specs.Pattern.{classOf}
-use Rattle.residual.specs.Levels.{zeros, block, listAnswer, leftIn, Decoded}
-use Rattle.residual.specs.declared.svq3_coeff.ResidualBook.{ResidualBook}
-use Rattle.residual.specs.declared.svq3_coeff.ListAnswer.{ListAnswer}
-use Rattle.residual.specs.declared.svq3_coeff.ListAnswer.the-variants.{End, Refused}
+use Rattle.levels.specs.Book.{positions}
+use Rattle.levels.specs.Pattern.{classOf}
+use Rattle.levels.specs.Levels.{zeros, block, listAnswer, leftIn, Decoded}
+use Rattle.levels.specs.declared.svq3_coeff.ResidualBook.{ResidualBook}
+use Rattle.levels.specs.declared.svq3_coeff.ListAnswer.{ListAnswer}
+use Rattle.levels.specs.declared.svq3_coeff.ListAnswer.the-variants.{End, Refused}
 use Rattle.record.specs.Items.{itemCoded, itemCount, itemPlace, readLists, readItem, readItems}
 use Rattle.record.specs.Answers.{Left}
 use Rattle.record.specs.Sides.{readSide}

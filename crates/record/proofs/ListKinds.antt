@@ -8,10 +8,10 @@ use borrow.Author.Tests.{lt-ltb, le-ltb}
 use lib.Dec.{ltb, eqb, lit<}
 use Rattle.ints.specs.Z.{if_then_else_}
 use Rattle.number.proofs.Numbers.{lt-or-le}
-use Rattle.residual.specs.Book.{positions}
-use Rattle.residual.specs.Pattern.{classOf, quadrantCoded}
-use Rattle.residual.specs.declared.svq3_coeff.ResidualBook.{ResidualBook}
-use Rattle.residual.specs.declared.svq3_coeff.ResidualBook.the-variants.{NormalScan, ChromaDc}
+use Rattle.levels.specs.Book.{positions}
+use Rattle.levels.specs.Pattern.{classOf, quadrantCoded}
+use Rattle.levels.specs.declared.svq3_coeff.ResidualBook.{ResidualBook}
+use Rattle.levels.specs.declared.svq3_coeff.ResidualBook.the-variants.{NormalScan, ChromaDc}
 use Rattle.record.specs.Items.{itemCoded, Group, itemBook, itemStart, itemCount, itemPlace}
 
 pub by-kind : {A : Type 0} (i : ℕ) → (i < 16 → A) → (16 ≤ i → i < 18 → A) → (18 ≤ i → A) → A

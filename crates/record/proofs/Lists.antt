@@ -14,8 +14,8 @@ use lib.Seq.{sets, length-sets, take-add, take-all, take-take, length-take-le}
 use Rattle.ints.specs.Z.{if_then_else_}
 use Rattle.refusal.specs.Got.{Got, got}
 use Rattle.refusal.specs.Format.{Format}
-use Rattle.residual.proofs.Table.{at}
-use Rattle.residual.specs.Levels.{zeros}
+use Rattle.levels.proofs.ShortTable.{at}
+use Rattle.levels.specs.Levels.{zeros}
 use Rattle.record.specs.Record.{noLevels}
 use Rattle.record.specs.Items.{itemCoded, itemBook, itemCount, itemPlace, itemLevels, readLists, writeLists}
 use Rattle.record.specs.Range.{ListsRange}

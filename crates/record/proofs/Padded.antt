@@ -13,8 +13,8 @@ use lib.ListN.{length, getD, take, drop, length-take, take-append-drop, List·ge
 use lib.Seq.{sets, sets-eq, length-sets, length-take-le, getD-take, getD-drop}
 use Rattle.number.specs.SignedNumber.{SignedNumberRange}
 use Rattle.number.proofs.Numbers.{lt-or-le}
-use Rattle.residual.specs.Levels.{zeros}
-use Rattle.residual.proofs.Table.{at}
+use Rattle.levels.specs.Levels.{zeros}
+use Rattle.levels.proofs.ShortTable.{at}
 use Rattle.vectors.specs.Modes.{numMotionVectors}
 use Rattle.record.specs.Record.{noVectors}
 use Rattle.record.specs.Range.{I32s, VectorsRange}

@@ -13,12 +13,12 @@ use lib.ListN.{take, drop}
 use lib.Seq.{sets, drop-drop}
 use Rattle.ints.specs.Z.{if_then_else_}
 use Rattle.refusal.specs.Got.{Got, got, refused, after, andThen, mapGot}
-use Rattle.residual.specs.Book.{positions}
-use Rattle.residual.specs.Levels.{block}
-use Rattle.residual.specs.Pattern.{classOf, quadrantCoded}
-use Rattle.residual.specs.declared.svq3_coeff.ResidualBook.{ResidualBook}
-use Rattle.residual.specs.declared.svq3_coeff.ResidualBook.the-variants.{NormalScan, ChromaDc}
-use Rattle.residual.proofs.Gots.{after-zero, after-after}
+use Rattle.levels.specs.Book.{positions}
+use Rattle.levels.specs.Levels.{block}
+use Rattle.levels.specs.Pattern.{classOf, quadrantCoded}
+use Rattle.levels.specs.declared.svq3_coeff.ResidualBook.{ResidualBook}
+use Rattle.levels.specs.declared.svq3_coeff.ResidualBook.the-variants.{NormalScan, ChromaDc}
+use Rattle.levels.proofs.Gots.{after-zero, after-after}
 use Rattle.record.specs.Items.{itemCoded, itemBook, itemStart, itemCount, itemPlace, itemLevels, readLists, writeLists, readItem, readItems}
 use Rattle.record.specs.Write.{signedNumbers, itemBytes, itemsBytes}
 use Rattle.record.specs.Sides.{readSide, sideBytes}

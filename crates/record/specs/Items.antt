@@ -10,11 +10,11 @@ use lib.ListN.{take, drop}
 use lib.Seq.{sets}
 use Rattle.ints.specs.Z.{if_then_else_}
 use Rattle.refusal.specs.Got.{Got, got, andThen}
-use Rattle.residual.specs.Book.{positions}
-use Rattle.residual.specs.Levels.{block, blockBits}
-use Rattle.residual.specs.Pattern.{classOf, quadrantCoded}
-use Rattle.residual.specs.declared.svq3_coeff.ResidualBook.{ResidualBook}
-use Rattle.residual.specs.declared.svq3_coeff.ResidualBook.the-variants.{NormalScan, ChromaDc}
+use Rattle.levels.specs.Book.{positions}
+use Rattle.levels.specs.Levels.{block, blockBits}
+use Rattle.levels.specs.Pattern.{classOf, quadrantCoded}
+use Rattle.levels.specs.declared.svq3_coeff.ResidualBook.{ResidualBook}
+use Rattle.levels.specs.declared.svq3_coeff.ResidualBook.the-variants.{NormalScan, ChromaDc}
 
 -- a luma list by its quadrant, chroma DC from class 1 on, chroma AC at class 2
 unfoldable pub itemCoded : ℕ → ℕ → Bool

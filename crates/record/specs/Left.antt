@@ -9,10 +9,10 @@ use lib.ListN.{drop}
 use lib.Seq.{sets}
 use Rattle.ints.specs.Z.{if_then_else_}
 use Rattle.refusal.specs.Got.{Got, got, refused}
-use Rattle.residual.specs.Book.{positions}
-use Rattle.residual.specs.Levels.{zeros, block, listAnswer}
-use Rattle.residual.specs.declared.svq3_coeff.ResidualBook.{ResidualBook}
-use Rattle.residual.specs.declared.svq3_coeff.ListAnswer.{ListAnswer}
+use Rattle.levels.specs.Book.{positions}
+use Rattle.levels.specs.Levels.{zeros, block, listAnswer}
+use Rattle.levels.specs.declared.svq3_coeff.ResidualBook.{ResidualBook}
+use Rattle.levels.specs.declared.svq3_coeff.ListAnswer.{ListAnswer}
 use Rattle.record.specs.Items.{itemCoded, itemCount, itemPlace, readItem}
 
 -- what `next` leaves behind a list, or `stop` where the list is refused

@@ -11,7 +11,7 @@ use Rattle.refusal.specs.Got.{Got, got, refused, andThen, mapGot}
 use Rattle.refusal.specs.declared.Refusal.the-variants.{FieldRange}
 use Rattle.number.specs.Number.{readNumber}
 use Rattle.number.specs.SignedNumber.{readSigned}
-use Rattle.residual.specs.Levels.{zeros}
+use Rattle.levels.specs.Levels.{zeros}
 use Rattle.vectors.specs.Modes.{numMotionVectors}
 use Rattle.record.specs.Record.{Record, noVectors, noLevels, placeHead, withMotion, withResidual, skipRecord}
 use Rattle.record.specs.Items.{itemStart, itemCount, readLists}

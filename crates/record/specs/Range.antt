@@ -7,7 +7,7 @@ use Prim.Native.Nat.{ℕ, _-_, _*_, _≤_, _<_}
 use lib.IntN.{ℤ, pos}
 use lib.ListN.{length, getD, take, drop}
 use Rattle.number.specs.SignedNumber.{SignedNumberRange}
-use Rattle.residual.specs.Levels.{zeros, BlockRange}
+use Rattle.levels.specs.Levels.{zeros, BlockRange}
 use Rattle.vectors.specs.Modes.{numMotionVectors}
 use Rattle.record.specs.Record.{Record, skipRecord}
 use Rattle.record.specs.declared.Head.{Head}

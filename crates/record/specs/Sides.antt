@@ -7,9 +7,9 @@ use lib.IntN.{ℤ}
 use lib.ListN.{take, drop}
 use lib.Seq.{sets}
 use Rattle.refusal.specs.Got.{Got, got, andThen}
-use Rattle.residual.specs.Book.{positions}
-use Rattle.residual.specs.Levels.{block}
-use Rattle.residual.specs.declared.svq3_coeff.ResidualBook.{ResidualBook}
+use Rattle.levels.specs.Book.{positions}
+use Rattle.levels.specs.Levels.{block}
+use Rattle.levels.specs.declared.svq3_coeff.ResidualBook.{ResidualBook}
 use Rattle.record.specs.Write.{signedNumbers}
 
 -- n lists of a book, each from position `start` on, are read and put side by side from a place on

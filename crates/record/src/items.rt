@@ -6,12 +6,12 @@ ghost use Rattle.bits.specs.Bits.{bitList};
 ghost use Rattle.record.specs.Items.{itemCoded, itemPlace, Group, readItems};
 ghost use Rattle.record.specs.Sides.{readSide};
 ghost use Rattle.record.specs.Left.{leftSide, leftItems, Leaves};
-use residual::svq3_cbp::chroma_class;
-use residual::svq3_cbp::luma_quadrant_coded;
-use residual::svq3_coeff::ListAnswer;
-use residual::svq3_coeff::ResidualBook;
-use residual::svq3_coeff::decode_chroma_dc_2x2;
-use residual::svq3_coeff::decode_residual_4x4_normal;
+use levels::svq3_cbp::chroma_class;
+use levels::svq3_cbp::luma_quadrant_coded;
+use levels::svq3_coeff::ListAnswer;
+use levels::svq3_coeff::ResidualBook;
+use levels::svq3_coeff::decode_chroma_dc_2x2;
+use levels::svq3_coeff::decode_residual_4x4_normal;
 
 // Lists 0 to 15 are luma blocks, 16 and 17 chroma DC, 18 to 25 chroma AC.
 pub fn item_coded(pattern: u8, i: usize) -> bool

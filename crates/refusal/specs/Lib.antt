@@ -1,3 +1,4 @@
 pub mod Refusal
 pub mod Got
 pub mod Format
+pub mod Until

@@ -1,4 +1,5 @@
-// Why a call is refused. Document 01's number and detail of each are `numberOf` and `detailOf` of specs/Refusal.antt.
+// Why a call is refused, and readers that answer or refuse. Document 01's number and detail of each refusal are `numberOf` and `detailOf` of specs/Refusal.antt.
+
 ghost use mathlib.Core.Path.{_≡_};
 ghost use Rattle.refusal.specs.Refusal.{numberOf, detailOf};
 

@@ -8,11 +8,11 @@ use lib.ListN.{length, drop, length-drop}
 use Rattle.refusal.specs.Got.{Got, got}
 use Rattle.record.specs.Record.{Record}
 use Rattle.record.specs.Parse.{parseRecord}
-use Rattle.lists.proofs.Laws.{Next}
-use Rattle.checking.specs.Records.{records}
-use Rattle.checking.proofs.Laws.{records-none, records-next}
-use Rattle.outcome.specs.State.{State}
-use Rattle.redo.specs.Stepped.{Stepped}
+use Rattle.refusal.proofs.Lists.{Next}
+use Rattle.transcript.specs.Records.{records}
+use Rattle.transcript.proofs.Checks.{records-none, records-next}
+use Rattle.state.specs.State.{State}
+use Rattle.replay.specs.Stepped.{Stepped}
 use Rattle.replay.specs.Replay.{appliedAll}
 use Rattle.replay.specs.Recorded.{Recorded, appliedOf, allLeft}
 

@@ -9,16 +9,16 @@ use lib.ListN.{length}
 use Rattle.refusal.specs.Got.{Got, got, refused}
 use Rattle.refusal.specs.declared.Refusal.{Refusal}
 use Rattle.picture.specs.Picture.{Sized, cellCount}
-use Rattle.questions.specs.Questions.{gridRight, askReplay, askQuantiser}
-use Rattle.questions.specs.declared.Asked.{Asked}
-use Rattle.questions.specs.declared.Asked.the-variants.{Yes, No}
-use Rattle.questions.proofs.Laws.{Grid, grid}
-use Rattle.questions.proofs.Yes.{Started, started, StateSized, state-sized, planes-sized}
+use Rattle.state.specs.Questions.{gridRight, askReplay, askQuantiser}
+use Rattle.state.specs.declared.Asked.{Asked}
+use Rattle.state.specs.declared.Asked.the-variants.{Yes, No}
+use Rattle.state.proofs.Laws.{Grid, grid}
+use Rattle.state.proofs.Yes.{Started, started, StateSized, state-sized, planes-sized}
 use Rattle.record.specs.Record.{Record}
-use Rattle.checking.specs.Records.{records}
-use Rattle.checking.specs.Check.{checkAnswer}
-use Rattle.checking.specs.declared.CheckAnswer.the-variants as check
-use Rattle.outcome.specs.State.{State, lengthsOf}
+use Rattle.transcript.specs.Records.{records}
+use Rattle.transcript.specs.Check.{checkAnswer}
+use Rattle.transcript.specs.declared.check.CheckAnswer.the-variants as check
+use Rattle.state.specs.State.{State, lengthsOf}
 use Rattle.replay.specs.Replay.{appliedAll, Replay, replayOf, unlessAsked, replayed}
 use Rattle.replay.specs.Recorded.{Recorded, appliedOf, allLeft}
 use Rattle.replay.specs.declared.ReplayAnswer.the-variants.{Replayed, Refused}

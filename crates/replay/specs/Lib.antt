@@ -1,2 +1,3 @@
+pub mod Stepped
 pub mod Replay
 pub mod Recorded

@@ -5,8 +5,8 @@ use mathlib.Core.List.{List}
 use Prim.Native.Nat.{ℕ, _+_}
 use Rattle.refusal.specs.Got.{Got, got, refused}
 use Rattle.record.specs.Record.{Record}
-use Rattle.checking.specs.Records.{records}
-use Rattle.outcome.specs.State.{State}
+use Rattle.transcript.specs.Records.{records}
+use Rattle.state.specs.State.{State}
 use Rattle.replay.specs.Replay.{appliedAll}
 
 -- a transcript that passed the check

@@ -4,13 +4,13 @@ use mathlib.Core.List.{List, [], _∷_}
 use Prim.Native.Nat.{ℕ}
 use lib.ListN.{length}
 use Rattle.refusal.specs.Got.{Got, got, refused}
-use Rattle.questions.specs.Questions.{askReplay}
-use Rattle.questions.specs.declared.Asked.{Asked}
-use Rattle.questions.specs.declared.Asked.the-variants.{Yes, No}
+use Rattle.state.specs.Questions.{askReplay}
+use Rattle.state.specs.declared.Asked.{Asked}
+use Rattle.state.specs.declared.Asked.the-variants.{Yes, No}
 use Rattle.record.specs.Record.{Record}
-use Rattle.checking.specs.Records.{records}
-use Rattle.outcome.specs.State.{State, lengthsOf}
-use Rattle.outcome.specs.Decode.{applied}
+use Rattle.transcript.specs.Records.{records}
+use Rattle.state.specs.State.{State, lengthsOf}
+use Rattle.macroblock.specs.Decode.{applied}
 use Rattle.replay.specs.declared.ReplayAnswer.{ReplayAnswer}
 use Rattle.replay.specs.declared.ReplayAnswer.the-variants.{Replayed, Refused}
 

@@ -1,7 +1,8 @@
 // The replay of a transcript.
-use refusal::Refusal;
-
+pub mod redo;
 pub mod replay;
+
+use refusal::Refusal;
 
 // The number of records, and the quantiser after them.
 pub struct ReplayReport {

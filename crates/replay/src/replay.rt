@@ -3,18 +3,18 @@ ghost use mathlib.Core.Path.{_≡_};
 ghost use Prim.Native.Nat.{_*_, _≤_};
 ghost use lib.ListN.{length};
 ghost use Rattle.picture.specs.Picture.{Sized, cellCount};
-ghost use Rattle.outcome.specs.Entry.{stateBefore, stateAfter};
+ghost use Rattle.macroblock.specs.Entry.{stateBefore, stateAfter};
 ghost use Rattle.replay.specs.Replay.{replayed, quantiserOf, replayLeft};
 ghost use Rattle.replay.specs.Recorded.{Recorded, allLeft};
 use crate::ReplayAnswer;
 use crate::ReplayReport;
-use checking::CheckAnswer;
-use checking::check_records;
-use outcome::Frame;
-use questions::Asked;
-use questions::Lengths;
-use questions::ask_replay;
-use redo::replay_record;
+use crate::redo::replay_record;
+use state::Asked;
+use state::Frame;
+use state::Lengths;
+use state::ask_replay;
+use transcript::check::CheckAnswer;
+use transcript::check::check_records;
 
 // The work of all records of a transcript that passed the check; answers the quantiser afterwards.
 fn replay_records(

@@ -1,1 +1,4 @@
+pub mod Listing
+pub mod CallExamples
+pub mod Turns
 pub mod Whole

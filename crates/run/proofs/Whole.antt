@@ -7,14 +7,14 @@ use native.Mathlib.Omega.{arith}
 use lib.ListN.{length}
 use Rattle.refusal.specs.Got.{Got, got, refused}
 use Rattle.refusal.specs.declared.Refusal.{Refusal}
-use Rattle.questions.specs.Questions.{askRun}
-use Rattle.questions.specs.declared.Call.{Call}
-use Rattle.calls.specs.Calls.{calls, callsAnswer}
-use Rattle.calls.specs.declared.CallsAnswer.the-variants.{Calls, Refused}
-use Rattle.outcome.specs.State.{State, lengthsOf}
-use Rattle.report.specs.Run.{ended, ran, ranFrom, ranOf, ranList, stopOf}
-use Rattle.report.specs.Left.{Left, reportOf, leaves, listLeft, Listed, fromOf, callsLeft}
-use Rattle.report.specs.declared.Stop.the-variants.{By}
+use Rattle.state.specs.Questions.{askRun}
+use Rattle.state.specs.declared.Call.{Call}
+use Rattle.run.specs.Calls.{calls, callsAnswer}
+use Rattle.run.specs.declared.calls.CallsAnswer.the-variants.{Calls, Refused}
+use Rattle.state.specs.State.{State, lengthsOf}
+use Rattle.run.specs.Run.{ended, ran, ranFrom, ranOf, ranList, stopOf}
+use Rattle.run.specs.Left.{Left, reportOf, leaves, listLeft, Listed, fromOf, callsLeft}
+use Rattle.run.specs.declared.Stop.the-variants.{By}
 
 apart : {A : Type 0} {why : Refusal} {n : ℕ} → Calls n ≡ Refused why → A
 apart e = absurd (let z : _≡_ {A = ℕ} 0 1 = cc in omega arith)

@@ -12,21 +12,21 @@ use Rattle.bits.specs.Code.{codeFrom, code}
 use Rattle.bits.specs.Signed.{signedOf, signedCode}
 use Rattle.number.specs.Number.{groups, number, lowThen, readNumber}
 use Rattle.number.specs.SignedNumber.{sent, signedNumber}
-use Rattle.residual.specs.Pattern.{patterns, pattern, quadrantCoded}
+use Rattle.levels.specs.Pattern.{patterns, pattern, quadrantCoded}
 use Rattle.vectors.specs.Modes.{partitionWidth, partitionHeight, numMotionVectors, offsetX, offsetY}
 use Rattle.vectors.specs.Precision.{precision}
-use Rattle.predict.specs.Predict.{cellAt, nearAt, leftOf, aboveOf, aboveLeftOf, medianOf, combined, predicted, heldIn, predictor}
-use Rattle.predict.specs.Units.{roundToSixths, convertPredictor, summed, scaled, storedPart, clippedPart}
-use Rattle.lists.specs.Until.{untilEnd}
+use Rattle.vectors.specs.Predict.{cellAt, nearAt, leftOf, aboveOf, aboveLeftOf, medianOf, combined, predicted, heldIn, predictor}
+use Rattle.vectors.specs.Units.{roundToSixths, convertPredictor, summed, scaled, storedPart, clippedPart}
+use Rattle.refusal.specs.Until.{untilEnd}
 use Rattle.record.specs.Record.{noVectors, noLevels}
 use Rattle.record.specs.Items.{itemCoded, readLists, writeLists, readItems}
 use Rattle.record.specs.Write.{signedNumbers, itemBytes, itemsBytes, restBytes, recordBytes}
-use Rattle.questions.specs.Questions.{gridRight, planesRight, stateRight, referenceThere, callRight, askStart, askQuantiser, askPlace, placeIn, askRest, askCall}
-use Rattle.calls.specs.Calls.{callIn, callsIn, calls}
+use Rattle.state.specs.Questions.{gridRight, planesRight, stateRight, referenceThere, callRight, askStart, askQuantiser, askPlace, placeIn, askRest, askCall}
+use Rattle.run.specs.Calls.{callIn, callsIn, calls}
 use Rattle.reading.specs.Read.{predictorAt, moved, readVectors, quantiserIn, readQuantiser, recordOf, atFirst, readResidual, readCoded, readMacroblock}
-use Rattle.outcome.specs.State.{State}
-use Rattle.outcome.specs.Decode.{outcomeOf, decoded}
-use Rattle.report.specs.Run.{Ran, ended, withCall, ranFrom, ran, ranList, transcriptOf, consumed}
+use Rattle.state.specs.State.{State}
+use Rattle.macroblock.specs.Decode.{outcomeOf, decoded}
+use Rattle.run.specs.Run.{Ran, ended, withCall, ranFrom, ran, ranList, transcriptOf, consumed}
 
 -- one macroblock, full pel, quantiser 5
 unfoldable pub one : State

@@ -16,19 +16,19 @@ use Rattle.compensation.specs.Sample.{sampleAt, sixths, blockSample}
 use Rattle.transform.specs.Tables.{dequantCoeff, chromaCoeff}
 use Rattle.transform.specs.Residual.{placed, residual}
 use Rattle.transform.specs.Added.{added}
-use Rattle.residual.specs.Pattern.{quadrantCoded}
-use Rattle.residual.proofs.Table.{at}
+use Rattle.levels.specs.Pattern.{quadrantCoded}
+use Rattle.levels.proofs.ShortTable.{at}
 use Rattle.vectors.specs.Modes.{partitionWidth, partitionHeight, numMotionVectors, offsetX, offsetY}
 use Rattle.vectors.proofs.Partitions.{inside-units, Holds, tiles}
-use Rattle.predict.specs.Predict.{Field}
-use Rattle.predict.specs.Stored.{storedVectors, storedMarks, storedField}
-use Rattle.questions.specs.declared.Call.{Call}
+use Rattle.picture.specs.Field.{Field}
+use Rattle.vectors.specs.Stored.{storedVectors, storedMarks, storedField}
+use Rattle.state.specs.declared.Call.{Call}
 use Rattle.record.specs.declared.Head.{Head}
 use Rattle.record.specs.Items.{itemCoded, itemPlace}
 use Rattle.record.proofs.ListKinds.{is-luma}
 use Rattle.reading.specs.Read.{storedAt}
-use Rattle.moving.specs.Moved.{vectorX, vectorY, unit, partX, partY, movedBlock, movedOnce, movedUpTo}
-use Rattle.adding.specs.Blocks.{cellOfBlock, lumaUpTo, dcOf, chromaUpTo}
+use Rattle.apply.specs.Moved.{vectorX, vectorY, unit, partX, partY, movedBlock, movedOnce, movedUpTo}
+use Rattle.apply.specs.Blocks.{cellOfBlock, lumaUpTo, dcOf, chromaUpTo}
 use Rattle.apply.specs.Apply.{storedUpTo}
 use Rattle.theorems.specs.Samples.{quadrantAt, lumaBlockAt, chromaBlockAt}
 use Rattle.theorems.specs.Outside.{Outside, SamplesOutside, VectorsOutside, MarksOutside}

@@ -10,16 +10,16 @@ use lib.IntN.{pos}
 use lib.ListN.{drop}
 use Rattle.bits.specs.Bits.{bitList}
 use Rattle.picture.specs.Picture.{copied}
-use Rattle.residual.specs.Pattern.{classOf}
-use Rattle.predict.specs.Predict.{Field}
-use Rattle.questions.specs.declared.Call.{Call}
+use Rattle.levels.specs.Pattern.{classOf}
+use Rattle.picture.specs.Field.{Field}
+use Rattle.state.specs.declared.Call.{Call}
 use Rattle.record.specs.Record.{Record}
 use Rattle.reading.specs.Bits.{callOf}
 use Rattle.reading.proofs.Took.{read-call}
-use Rattle.adding.specs.Blocks.{chromaAdded}
+use Rattle.apply.specs.Blocks.{chromaAdded}
 use Rattle.apply.specs.Apply.{appliedLuma, appliedChroma, appliedField}
-use Rattle.outcome.specs.State.{State, contextOf, fieldOf}
-use Rattle.outcome.specs.Decode.{applied, outcomeOf, decoded}
+use Rattle.state.specs.State.{State, contextOf, fieldOf}
+use Rattle.macroblock.specs.Decode.{applied, outcomeOf, decoded}
 use Rattle.theorems.specs.Samples.{Plane, Luma, Cb, Cr, referenceOf, pictureOf, unitOf}
 use Rattle.theorems.specs.Outside.{Outside, SamplesOutside, StateOutside}
 use Rattle.theorems.proofs.Traces.{Kind, no, yes, kind}

@@ -10,7 +10,7 @@ use lib.Seq.{take-add, take-at}
 use Rattle.refusal.specs.Got.{Got, got}
 use Rattle.refusal.proofs.Formats.{got-value, got-count, injective}
 use Rattle.refusal.proofs.Local.{Took, same-before, same-behind}
-use Rattle.questions.specs.declared.Call.{Call}
+use Rattle.state.specs.declared.Call.{Call}
 use Rattle.record.specs.Record.{Record}
 use Rattle.record.specs.Range.{RecordRange}
 use Rattle.record.specs.Write.{recordBytes}
@@ -20,8 +20,8 @@ use Rattle.reading.specs.Read.{readMacroblock}
 use Rattle.reading.specs.Bits.{callOf, bitsOf}
 use Rattle.reading.proofs.Alone.{read-local}
 use Rattle.reading.proofs.Took.{read-took, read-call}
-use Rattle.outcome.specs.State.{State, contextOf}
-use Rattle.outcome.specs.Decode.{applied}
+use Rattle.state.specs.State.{State, contextOf}
+use Rattle.macroblock.specs.Decode.{applied}
 use Rattle.theorems.specs.Trace.{Ready, Path, done, step, callsOf, bytesOf, clipsOf}
 use Rattle.theorems.proofs.Traces.{path-range}
 

@@ -3,12 +3,12 @@
 use mathlib.Core.Path.{_≡_, refl}
 use Prim.Native.Nat.{ℕ, _≤_}
 use borrow.Author.Tests.{le-leb}
-use Rattle.questions.specs.Questions.{askStart, askQuantiser, askCall, askReplay}
-use Rattle.questions.proofs.Laws.{grid}
-use Rattle.questions.proofs.Yes.{started, rest-yes}
-use Rattle.questions.specs.declared.Call.{Call}
-use Rattle.questions.specs.declared.Asked.the-variants.{Yes}
-use Rattle.outcome.specs.State.{State, lengthsOf}
+use Rattle.state.specs.Questions.{askStart, askQuantiser, askCall, askReplay}
+use Rattle.state.proofs.Laws.{grid}
+use Rattle.state.proofs.Yes.{started, rest-yes}
+use Rattle.state.specs.declared.Call.{Call}
+use Rattle.state.specs.declared.Asked.the-variants.{Yes}
+use Rattle.state.specs.State.{State, lengthsOf}
 use Rattle.theorems.specs.Trace.{Ready}
 
 -- where 1 to 8 of a call pass, so do 1 to 4 and 6; the call is ready, and 2,089 bytes are free

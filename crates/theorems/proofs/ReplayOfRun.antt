@@ -10,21 +10,21 @@ use lib.ListN.{length, drop, length-append}
 use lib.Seq.{drop-at}
 use Rattle.refusal.specs.Got.{Got, got, refused}
 use Rattle.refusal.specs.declared.Refusal.{Refusal}
-use Rattle.questions.specs.Questions.{askReplay}
-use Rattle.questions.specs.declared.Call.{Call}
-use Rattle.questions.specs.declared.Asked.{Asked}
-use Rattle.questions.specs.declared.Asked.the-variants.{Yes, No}
+use Rattle.state.specs.Questions.{askReplay}
+use Rattle.state.specs.declared.Call.{Call}
+use Rattle.state.specs.declared.Asked.{Asked}
+use Rattle.state.specs.declared.Asked.the-variants.{Yes, No}
 use Rattle.record.specs.Record.{Record}
 use Rattle.record.specs.Write.{recordBytes}
 use Rattle.record.specs.Parse.{parseRecord}
 use Rattle.record.proofs.Records.{record-format}
 use Rattle.record.proofs.Lengths.{record-some}
-use Rattle.outcome.specs.State.{State, lengthsOf}
-use Rattle.outcome.specs.Decode.{applied, Outcome, kept, outcomeOf, decoded}
-use Rattle.calls.specs.Calls.{calls}
-use Rattle.report.specs.Run.{Ran, ended, onward, ranFrom, ran, ranOf, ranList, transcriptOf}
-use Rattle.lists.proofs.Laws.{until-end, until-turn}
-use Rattle.checking.specs.Records.{recordsIn, records}
+use Rattle.state.specs.State.{State, lengthsOf}
+use Rattle.macroblock.specs.Decode.{applied, Outcome, kept, outcomeOf, decoded}
+use Rattle.run.specs.Calls.{calls}
+use Rattle.run.specs.Run.{Ran, ended, onward, ranFrom, ran, ranOf, ranList, transcriptOf}
+use Rattle.refusal.proofs.Lists.{until-end, until-turn}
+use Rattle.transcript.specs.Records.{recordsIn, records}
 use Rattle.replay.specs.Replay.{appliedAll, Replay, replayOf, unlessAsked, replayed}
 use Rattle.replay.specs.declared.ReplayAnswer.{ReplayAnswer}
 use Rattle.replay.specs.declared.ReplayAnswer.the-variants.{Replayed, Refused}

@@ -25,22 +25,22 @@ use Rattle.picture.proofs.Laws.{macroblock-inside}
 use Rattle.vectors.specs.Modes.{partitionWidth, partitionHeight, numMotionVectors}
 use Rattle.compensation.specs.Sample.{sampleAt, sixths}
 use Rattle.compensation.proofs.Between.{Between, least, greatest, sample-taps}
-use Rattle.residual.specs.Pattern.{classOf, quadrantCoded}
-use Rattle.questions.specs.Questions.{askReplay}
-use Rattle.questions.specs.declared.Call.{Call}
-use Rattle.questions.proofs.Yes.{started, StateSized, state-sized}
+use Rattle.levels.specs.Pattern.{classOf, quadrantCoded}
+use Rattle.state.specs.Questions.{askReplay}
+use Rattle.state.specs.declared.Call.{Call}
+use Rattle.state.proofs.Yes.{started, StateSized, state-sized}
 use Rattle.record.specs.Record.{Record}
 use Rattle.reading.specs.Read.{readMacroblock}
 use Rattle.reading.specs.Bits.{callOf}
 use Rattle.reading.proofs.Took.{read-call}
-use Rattle.moving.specs.Moved.{vectorX, vectorY, partX, partY, movedUpTo}
-use Rattle.adding.specs.Blocks.{chromaAdded}
+use Rattle.apply.specs.Moved.{vectorX, vectorY, partX, partY, movedUpTo}
+use Rattle.apply.specs.Blocks.{chromaAdded}
 use Rattle.apply.specs.Apply.{appliedChroma}
 use Rattle.apply.proofs.Macroblocks.{skip-luma, coded-luma, skip-chroma, coded-chroma}
-use Rattle.outcome.specs.State.{State, contextOf, lengthsOf}
-use Rattle.outcome.specs.Decode.{applied, Outcome, outcomeOf, decoded}
-use Rattle.outcome.specs.declared.MbReport.{MbReport}
-use Rattle.outcome.specs.declared.MbAnswer.the-variants.{Accepted}
+use Rattle.state.specs.State.{State, contextOf, lengthsOf}
+use Rattle.macroblock.specs.Decode.{applied, Outcome, outcomeOf, decoded}
+use Rattle.macroblock.specs.declared.MbReport.{MbReport}
+use Rattle.macroblock.specs.declared.MbAnswer.the-variants.{Accepted}
 use Rattle.theorems.specs.Trace.{Ready}
 use Rattle.theorems.specs.Samples.{Plane, Luma, Cb, Cr, referenceOf, pictureOf, unitOf, widthOf, heightOf, pictureAt, referenceAt, compensatedAt, ofTaps, quadrantAt, codedAt, lumaResidualAt, chromaResidualAt, withResidualAt}
 use Rattle.theorems.proofs.Traces.{Kind, no, yes, kind}

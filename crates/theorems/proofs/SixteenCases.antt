@@ -9,10 +9,10 @@ use Rattle.ints.specs.Z.{if_then_else_, satZ, clampZ, floorZ}
 use Rattle.refusal.specs.Got.{got}
 use Rattle.bits.specs.Code.{code, codeFrom}
 use Rattle.bits.specs.Signed.{signedOf}
-use Rattle.residual.specs.Book.{resolve, level, levelOf, magnitude, magnitudes, run, runs, escapeMagnitude, least, chromaBase}
-use Rattle.residual.specs.declared.svq3_coeff.ResidualBook.the-variants.{NormalScan, ChromaDc}
-use Rattle.residual.specs.declared.svq3_coeff.LevelRun.the-variants.{Pair}
-use Rattle.predict.specs.Units.{convertPredictor, roundToSixths}
+use Rattle.levels.specs.Book.{resolve, level, levelOf, magnitude, magnitudes, run, runs, escapeMagnitude, least, chromaBase}
+use Rattle.levels.specs.declared.svq3_coeff.ResidualBook.the-variants.{NormalScan, ChromaDc}
+use Rattle.levels.specs.declared.svq3_coeff.LevelRun.the-variants.{Pair}
+use Rattle.vectors.specs.Units.{convertPredictor, roundToSixths}
 use Rattle.vectors.specs.declared.svq3_mb.Svq3MvPrecision.the-variants.{Fullpel}
 use Rattle.compensation.specs.Formula.{along, formula}
 use Rattle.transform.specs.Tables.{dequantCoeff}

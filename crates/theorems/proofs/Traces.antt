@@ -11,9 +11,9 @@ use lib.Seq.{sets, sets-eq, length-sets, drop-drop, take-at, take-append-le}
 use Rattle.refusal.specs.Got.{Got, got, refused}
 use Rattle.refusal.specs.declared.Refusal.{Refusal}
 use Rattle.bits.specs.Bits.{bitList}
-use Rattle.questions.specs.declared.Call.{Call}
-use Rattle.questions.specs.declared.Asked.{Asked}
-use Rattle.questions.specs.declared.Asked.the-variants.{Yes, No}
+use Rattle.state.specs.declared.Call.{Call}
+use Rattle.state.specs.declared.Asked.{Asked}
+use Rattle.state.specs.declared.Asked.the-variants.{Yes, No}
 use Rattle.record.specs.Record.{Record}
 use Rattle.record.specs.Range.{RecordRange}
 use Rattle.record.specs.Write.{recordBytes}
@@ -21,12 +21,12 @@ use Rattle.record.proofs.Lengths.{record-length, head-range}
 use Rattle.reading.specs.Read.{readMacroblock}
 use Rattle.reading.specs.Bits.{callOf}
 use Rattle.reading.proofs.Took.{read-range, read-call}
-use Rattle.outcome.specs.State.{State, contextOf}
-use Rattle.outcome.specs.Decode.{applied, quantiserAfter, Outcome, kept, outcomeOf, unlessRefused, asked, decoded}
-use Rattle.outcome.specs.declared.MbAnswer.the-variants.{Accepted, Refused}
-use Rattle.report.specs.Run.{Ran, ended, withCall, onward, ranFrom}
-use Rattle.report.specs.declared.Stop.{Stop}
-use Rattle.report.specs.declared.Stop.the-variants.{Done, By}
+use Rattle.state.specs.State.{State, contextOf}
+use Rattle.macroblock.specs.Decode.{applied, quantiserAfter, Outcome, kept, outcomeOf, unlessRefused, asked, decoded}
+use Rattle.macroblock.specs.declared.MbAnswer.the-variants.{Accepted, Refused}
+use Rattle.run.specs.Run.{Ran, ended, withCall, onward, ranFrom}
+use Rattle.run.specs.declared.Stop.{Stop}
+use Rattle.run.specs.declared.Stop.the-variants.{Done, By}
 use Rattle.theorems.specs.Trace.{Ready, Path, done, step, callsOf, bytesOf, clipsOf}
 use Rattle.theorems.proofs.Ready.{Asks, asks}
 

@@ -9,12 +9,12 @@ use Prim.Native.Nat.{ℕ, _+_, _-_}
 use native.Mathlib.Omega.{arith}
 use lib.ListN.{length, take, drop, length-take}
 use Rattle.bits.specs.Bits.{bitList}
-use Rattle.questions.specs.declared.Call.{Call}
-use Rattle.outcome.specs.State.{State}
+use Rattle.state.specs.declared.Call.{Call}
+use Rattle.state.specs.State.{State}
 use Rattle.refusal.specs.Got.{Got, got, refused}
-use Rattle.calls.specs.Calls.{calls}
-use Rattle.report.specs.Run.{Ran, ended, ran, ranOf, ranList, transcriptOf, consumed}
-use Rattle.report.specs.Left.{leaves, listLeft}
+use Rattle.run.specs.Calls.{calls}
+use Rattle.run.specs.Run.{Ran, ended, ran, ranOf, ranList, transcriptOf, consumed}
+use Rattle.run.specs.Left.{leaves, listLeft}
 use Rattle.record.specs.Record.{Record}
 use Rattle.theorems.specs.Trace.{Path, callsOf, bytesOf, clipsOf}
 use Rattle.theorems.specs.Unique.{SameReading, OneUnclipped}

@@ -7,7 +7,7 @@ use Prim.Native.Nat.{ℕ, _*_, _/_}
 use lib.IntN.{ℤ}
 use lib.ListN.{length, getD}
 use Rattle.picture.specs.Painted.{inside}
-use Rattle.outcome.specs.State.{State}
+use Rattle.state.specs.State.{State}
 use Rattle.theorems.specs.Samples.{Plane, referenceOf, pictureOf, unitOf}
 
 -- l′ has the length of l, and at each place outside the w × h places from column x of row y on what l has there

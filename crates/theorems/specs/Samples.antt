@@ -10,12 +10,12 @@ use Rattle.ints.specs.Z.{if_then_else_, towardZero, floorZ, clip1Z}
 use Rattle.compensation.specs.Sample.{tap, sampleAt, sixths}
 use Rattle.transform.specs.Tables.{dequantCoeff, chromaCoeff}
 use Rattle.transform.specs.Residual.{placed, residual}
-use Rattle.residual.specs.Pattern.{classOf, quadrantCoded}
+use Rattle.levels.specs.Pattern.{classOf, quadrantCoded}
 use Rattle.record.specs.Items.{itemPlace}
 use Rattle.record.specs.Record.{Record}
-use Rattle.moving.specs.Moved.{vectorX, vectorY}
-use Rattle.adding.specs.Blocks.{dcOf}
-use Rattle.outcome.specs.State.{State}
+use Rattle.apply.specs.Moved.{vectorX, vectorY}
+use Rattle.apply.specs.Blocks.{dcOf}
+use Rattle.state.specs.State.{State}
 
 pub data Plane : Type 0 where
   Luma : Plane

@@ -6,13 +6,13 @@ use mathlib.Core.List.{List, [], _∷_, _++_}
 use Prim.Native.Nat.{ℕ, _+_, _≤_, _<_}
 use lib.ListN.{drop}
 use Rattle.refusal.specs.Got.{Got, got}
-use Rattle.questions.specs.declared.Call.{Call}
+use Rattle.state.specs.declared.Call.{Call}
 use Rattle.record.specs.Record.{Record}
 use Rattle.record.specs.Write.{recordBytes}
 use Rattle.reading.specs.Read.{readMacroblock}
 use Rattle.reading.specs.Bits.{callOf}
-use Rattle.outcome.specs.State.{State, contextOf}
-use Rattle.outcome.specs.Decode.{applied}
+use Rattle.state.specs.State.{State, contextOf}
+use Rattle.macroblock.specs.Decode.{applied}
 
 -- what the questions said of an accepted call
 pub record Ready (s : State) (call : Call) : Type 0 where

@@ -4,7 +4,7 @@ use mathlib.Core.Path.{_≡_}
 use mathlib.Core.Logic.{_⊎_}
 use mathlib.Core.List.{List}
 use Prim.Native.Nat.{ℕ}
-use Rattle.report.specs.Run.{Ran, consumed}
+use Rattle.run.specs.Run.{Ran, consumed}
 
 -- the same accepted calls, from the same bits
 abbrev pub SameReading : List ℕ → ℕ → Ran → List ℕ → ℕ → Ran → Type 0

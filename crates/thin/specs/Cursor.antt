@@ -1,7 +1,7 @@
 -- Where a run leaves the caller's place and quantiser; where one call leaves them is `cursorBy` of outcome.
 -- Assumes nothing.
-use Rattle.outcome.specs.declared.Cursor.{Cursor}
-use Rattle.report.specs.declared.Report.{Report}
+use Rattle.state.specs.declared.Cursor.{Cursor}
+use Rattle.run.specs.declared.Report.{Report}
 
 abbrev pub cursorOf : Report → Cursor
 cursorOf report = record { place = report .place; quantiser = report .quantiser }

@@ -1,14 +1,15 @@
 // One macroblock, and a run, from the caller's own record of place and quantiser, which moves on.
+pub mod moved;
 pub mod svq3_frame;
 
 ghost use mathlib.Core.Path.{_≡_};
-ghost use Rattle.outcome.specs.Entry.{stateBefore, stateAfter};
-ghost use Rattle.report.specs.Left.{leftOf, listLeft};
+ghost use Rattle.macroblock.specs.Entry.{stateBefore, stateAfter};
+ghost use Rattle.run.specs.Left.{leftOf, listLeft};
 ghost use Rattle.thin.specs.Cursor.{cursorOf};
-use outcome::Cursor;
-use outcome::Frame;
-use report::Report;
+use run::Report;
 use run::run::run;
+use state::Cursor;
+use state::Frame;
 
 // Where a run leaves the caller: behind its last accepted call.
 pub fn cursor_of(report: Report) -> Cursor

@@ -1,13 +1,13 @@
 // The entry that moves on the caller's record.
 ghost use mathlib.Core.Path.{_≡_};
-ghost use Rattle.outcome.specs.Decode.{decoded};
-ghost use Rattle.outcome.specs.Entry.{stateBefore, stateAfter, left, cursorBy};
+ghost use Rattle.macroblock.specs.Decode.{decoded};
+ghost use Rattle.macroblock.specs.Entry.{stateBefore, stateAfter, left, cursorBy};
+use macroblock::MbAnswer;
+use macroblock::cursor_by;
 use macroblock::svq3_frame::decode_inter_mb;
-use outcome::Cursor;
-use outcome::Frame;
-use outcome::MbAnswer;
-use outcome::cursor_by;
-use questions::Call;
+use state::Call;
+use state::Cursor;
+use state::Frame;
 
 // One macroblock from the caller's own place and quantiser, which move on.
 pub fn decode_inter_mb_at(

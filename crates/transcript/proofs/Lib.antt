@@ -1,2 +1,9 @@
 pub mod Writing
-pub mod Short
+pub mod Sent
+pub mod Reading
+pub mod Parsings
+pub mod Answers
+pub mod Received
+pub mod Places
+pub mod Checks
+pub mod Examples

@@ -12,17 +12,17 @@ use lib.Seq.{sets, length-sets, drop-cons, drop-drop, take-add}
 use Rattle.ints.specs.Z.{if_then_else_}
 use Rattle.number.specs.Number.{number}
 use Rattle.number.specs.SignedNumber.{signedNumber}
-use Rattle.residual.specs.Book.{positions}
-use Rattle.residual.specs.Pattern.{classOf}
-use Rattle.residual.specs.declared.svq3_coeff.ResidualBook.{ResidualBook}
-use Rattle.residual.specs.declared.svq3_coeff.ResidualBook.the-variants.{ChromaDc}
+use Rattle.levels.specs.Book.{positions}
+use Rattle.levels.specs.Pattern.{classOf}
+use Rattle.levels.specs.declared.svq3_coeff.ResidualBook.{ResidualBook}
+use Rattle.levels.specs.declared.svq3_coeff.ResidualBook.the-variants.{ChromaDc}
 use Rattle.vectors.specs.Modes.{numMotionVectors}
 use Rattle.record.specs.Record.{Record, skipRecord}
 use Rattle.record.proofs.Lengths.{record-length}
 use Rattle.record.specs.Items.{writeLists}
 use Rattle.record.specs.Write.{signedNumbers, itemBytes, itemsBytes, restBytes, recordBytes}
 use Rattle.record.specs.Sides.{sideBytes}
-use Rattle.transcript.specs.Answers.{Written}
+use Rattle.transcript.specs.InnerWritten.{Written}
 use Rattle.record.proofs.Turns.{when-false}
 use Rattle.record.proofs.Sets.{sets-append}
 use Rattle.record.proofs.Sides.{write-parts, dc-side, ac-side, dc-place, no-class, some-class, side-written, side-unwritten}

@@ -1,2 +1,7 @@
-pub mod Answers
-pub mod Short
+pub mod InnerWritten
+pub mod InnerSent
+pub mod InnerParsing
+pub mod InnerReceived
+pub mod InnerPlace
+pub mod Records
+pub mod Check

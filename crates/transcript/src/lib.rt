@@ -1,2 +1,4 @@
-// Records as a transcript has them, written to bytes.
+// Records of a transcript: written, read back, checked.
+pub mod check;
+pub mod parse;
 pub mod write;

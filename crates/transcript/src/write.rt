@@ -7,16 +7,16 @@ ghost use lib.Seq.{sets};
 ghost use Rattle.record.specs.Write.{signedNumbers, itemsBytes, restBytes, recordBytes};
 ghost use Rattle.record.specs.Sides.{sideBytes};
 ghost use Rattle.record.specs.Record.{recordOf, skipRecord};
-ghost use Rattle.transcript.specs.Answers.{Written};
-ghost use Rattle.transcript.specs.Short.{heldOf, sentShort, allShort, Held};
+ghost use Rattle.transcript.specs.InnerWritten.{Written};
+ghost use Rattle.transcript.specs.InnerSent.{heldOf, sentShort, allShort, Held};
 ghost use Rattle.record.specs.Range.{HeadRange};
 use ints::clamp_i32;
+use levels::svq3_cbp::chroma_class;
+use levels::svq3_cbp::luma_quadrant_coded;
+use levels::svq3_coeff::ResidualBook;
 use number::put_number;
 use number::put_signed_number;
 use record::Head;
-use residual::svq3_cbp::chroma_class;
-use residual::svq3_cbp::luma_quadrant_coded;
-use residual::svq3_coeff::ResidualBook;
 use vectors::svq3_mb::num_motion_vectors;
 
 // `count` signed numbers from the place `first` on, one after another.

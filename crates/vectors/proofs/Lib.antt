@@ -2,4 +2,11 @@ pub mod Partitions
 pub mod Precisions
 pub mod Flags
 pub mod Answers
+pub mod ModeExamples
+pub mod Tests
+pub mod Predictors
+pub mod Moves
+pub mod Storing
+pub mod Windows
+pub mod Following
 pub mod Examples

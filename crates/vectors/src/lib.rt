@@ -1,2 +1,4 @@
-// Motion vectors of an inter macroblock: its partitions and their precision.
+// Partitions, precision, the predictor and units of vectors.
+pub mod svq3_frame;
 pub mod svq3_mb;
+pub mod window;

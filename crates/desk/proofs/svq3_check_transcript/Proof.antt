@@ -5,8 +5,8 @@ use mir.Facts.{toZ-pos}
 use native.Mathlib.Omega.{arith}
 use borrow.Author.Needs.{needs}
 use Rattle.ints.proofs.Fits.{back}
-use Rattle.checking.specs.Check.{checked}
-use Rattle.checking.specs.declared.CheckAnswer.{CheckAnswer}
+use Rattle.transcript.specs.Check.{checked}
+use Rattle.transcript.specs.declared.check.CheckAnswer.{CheckAnswer}
 use Rattle.desk.specs.Answer.{checkCode}
 use Rattle.desk.proofs.Check.{few-records, by-sides}
 use Rattle.desk.proofs.svq3_check_transcript.Statement.{statement}

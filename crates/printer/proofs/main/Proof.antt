@@ -4,7 +4,7 @@ use Prim.Native.Nat.{ℕ}
 use native.Mathlib.Omega.{arith}
 use lib.ListN.{length-replicate}
 use lib.Seq.{length-take-le}
-use Rattle.lines.proofs.Texts.{written-length}
+use Rattle.printing.proofs.Texts.{written-length}
 use borrow.Author.Needs.{needs}
 use Rattle.printer.proofs.main.Statement.{statement}
 use Rattle.printer.proofs.main.Tie as tie

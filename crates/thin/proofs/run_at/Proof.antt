@@ -43,18 +43,18 @@ use denote.Triple.Clauses.{ensured, lasts}
 use denote.Triple.Table.{entered, cited}
 use denote.Triple.Walked.{says, needs, Stays, stay-ref, stay-none, stay-none-slice, gave-slice, walkOf, goes-none, goes-ref, goes-none-slice, goes-gave-slice, Walks, ends-at, walked, walk-meets}
 use denote.Exit.{yes}
-use Rattle.outcome.specs.Entry.{stateOf}
-use Rattle.report.specs.Left.{leftOf, listLeft}
+use Rattle.macroblock.specs.Entry.{stateOf}
+use Rattle.run.specs.Left.{leftOf, listLeft}
 use Rattle.thin.specs.Cursor.{cursorOf}
-use Rattle.outcome.specs.declared.Cursor.{Cursor}
-use Rattle.outcome.proofs.Cursor as T
-use Rattle.outcome.proofs.Cursor.Laws as T′
-use Rattle.report.specs.declared.Report.{Report}
-use Rattle.report.proofs.Report as E
-use Rattle.report.proofs.Report.Laws as E′
-use Rattle.outcome.specs.declared.Frame.{Frame}
-use Rattle.outcome.proofs.Frame as V0
-use Rattle.outcome.proofs.Frame.Laws as V0′
+use Rattle.state.specs.declared.Cursor.{Cursor}
+use Rattle.state.proofs.Cursor as T
+use Rattle.state.proofs.Cursor.Laws as T′
+use Rattle.run.specs.declared.Report.{Report}
+use Rattle.run.proofs.Report as E
+use Rattle.run.proofs.Report.Laws as E′
+use Rattle.state.specs.declared.Frame.{Frame}
+use Rattle.state.proofs.Frame as V0
+use Rattle.state.proofs.Frame.Laws as V0′
 use Rattle.run.proofs.run.run as callee
 use Rattle.run.proofs.run.run.Symbol as callee-def
 use Rattle.run.proofs.run.run.Symbol.{name as #run·run}

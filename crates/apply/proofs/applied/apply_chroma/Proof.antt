@@ -4,7 +4,7 @@ use mathlib.Core.List.{List}
 use Prim.Native.Nat.{ℕ}
 use lib.Dec.{lit<}
 use Rattle.record.specs.Record.{recordOf}
-use Rattle.adding.specs.Blocks.{chromaAdded}
+use Rattle.apply.specs.Blocks.{chromaAdded}
 use Rattle.apply.proofs.Macroblocks.{coded-chroma, place-within, no-skip}
 use Rattle.apply.proofs.applied.apply_chroma.Statement.{statement}
 use Rattle.apply.proofs.applied.apply_chroma.Tie as tie

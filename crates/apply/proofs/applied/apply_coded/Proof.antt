@@ -1,6 +1,6 @@
 -- `apply::applied::apply_coded`: luma, chroma, then the cells.
 use mathlib.Core.Path.{sym, ap, _∙_}
-use Rattle.predict.specs.Predict.{Field, fieldOf}
+use Rattle.picture.specs.Field.{Field, fieldOf}
 use Rattle.record.specs.Record.{recordOf}
 use Rattle.apply.proofs.Macroblocks.{place-within, no-skip}
 use Rattle.apply.proofs.Fields.{coded-field}

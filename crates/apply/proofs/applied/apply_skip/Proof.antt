@@ -2,7 +2,7 @@
 use mathlib.Core.Path.{sym, ap, _∙_}
 use Prim.Native.Nat.{ℕ, _*_}
 use native.Mathlib.Omega.{arith}
-use Rattle.predict.proofs.Following.{macroblock-cells}
+use Rattle.vectors.proofs.Following.{macroblock-cells}
 use Rattle.apply.proofs.Macroblocks.{skipped-luma, skipped-chroma}
 use Rattle.apply.proofs.Fields.{skipped-mv, skipped-marks}
 use Rattle.apply.proofs.applied.apply_skip.Statement.{statement}

@@ -9,9 +9,9 @@ use Rattle.picture.specs.Painted.{Inside}
 use Rattle.picture.specs.Picture.{always}
 use Rattle.picture.specs.Rows.{rows}
 use Rattle.picture.proofs.Laws.{Row, inside-row, rows-more, rows-painted}
-use Rattle.predict.specs.Predict.{fieldOf}
-use Rattle.predict.proofs.Following.{macroblock-cells}
-use Rattle.predict.proofs.Storing.{pairs-inside}
+use Rattle.picture.specs.Field.{fieldOf}
+use Rattle.vectors.proofs.Following.{macroblock-cells}
+use Rattle.vectors.proofs.Storing.{pairs-inside}
 use Rattle.apply.specs.Cells.{ownNumber}
 use Rattle.apply.proofs.Fields.{owns-more}
 use Rattle.apply.proofs.Tiles.{tiled-numbers, tiled-marks}

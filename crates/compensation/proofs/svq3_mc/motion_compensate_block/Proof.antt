@@ -7,7 +7,7 @@ use borrow.Author.Needs.{needs}
 use Rattle.ints.specs.Z.{if_then_else_}
 use Rattle.picture.specs.Painted.{painted}
 use Rattle.compensation.specs.Sample.{blockSample}
-use Rattle.questions.specs.Questions.{sidesFit}
+use Rattle.state.specs.Questions.{sidesFit}
 use Rattle.compensation.specs.Block.{blockAnswer, blockOut}
 use Rattle.compensation.proofs.Sides.{plane-whole, spans, block-inside}
 use Rattle.compensation.proofs.svq3_mc.motion_compensate_block.Statement.{statement}

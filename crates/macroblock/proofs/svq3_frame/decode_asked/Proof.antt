@@ -1,5 +1,5 @@
 -- `decode_asked`: both ways are asked and ensure what it is asked and ensures; the mode is tested here.
-use Rattle.outcome.proofs.Laws.{some-mode}
+use Rattle.macroblock.proofs.Laws.{some-mode}
 use Rattle.macroblock.proofs.svq3_frame.decode_asked.Statement.{statement}
 use Rattle.macroblock.proofs.svq3_frame.decode_asked.Tie as tie
 

@@ -1,9 +1,9 @@
 -- `decode_inter_mb`: a call that is refused by a question changes nothing; the others are decoded.
 use mathlib.Core.Path.{sym, _∙_}
 use denote.Ref.{now}
-use Rattle.outcome.specs.State.{State}
-use Rattle.outcome.specs.Entry.{stateOf}
-use Rattle.outcome.proofs.Laws as laws
+use Rattle.state.specs.State.{State}
+use Rattle.macroblock.specs.Entry.{stateOf}
+use Rattle.macroblock.proofs.Laws as laws
 use borrow.Author.Needs.{needs}
 use Rattle.macroblock.proofs.svq3_frame.decode_inter_mb.Statement.{statement}
 use Rattle.macroblock.proofs.svq3_frame.decode_inter_mb.Tie as tie

@@ -4,9 +4,9 @@ use Prim.Native.Nat.{ℕ}
 use native.Mathlib.Omega.{arith}
 use denote.Ref.{now}
 use Rattle.picture.specs.Picture.{Within}
-use Rattle.outcome.specs.State.{State}
-use Rattle.outcome.specs.Entry.{stateOf}
-use Rattle.outcome.proofs.Laws as laws
+use Rattle.state.specs.State.{State}
+use Rattle.macroblock.specs.Entry.{stateOf}
+use Rattle.macroblock.proofs.Laws as laws
 use borrow.Author.Needs.{needs}
 use Rattle.macroblock.proofs.svq3_frame.decode_skip.Statement.{statement}
 use Rattle.macroblock.proofs.svq3_frame.decode_skip.Tie as tie

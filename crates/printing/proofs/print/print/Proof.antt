@@ -6,7 +6,7 @@ use native.Mathlib.Omega.{arith}
 use lib.ListN.{length, take}
 use lib.Seq.{take-all, length-take-le}
 use Rattle.printing.specs.Print.{printed}
-use Rattle.lines.proofs.Texts.{written-as}
+use Rattle.printing.proofs.Texts.{written-as}
 use borrow.Author.Needs.{needs}
 use Rattle.printing.proofs.print.print.Statement.{statement}
 use Rattle.printing.proofs.print.print.Tie as tie

@@ -3,7 +3,7 @@ use mathlib.Core.Path.{_≡_, sym, ap, _∙_}
 use Prim.Native.Nat.{ℕ, _≤_}
 use native.Mathlib.Omega.{arith}
 use lib.ListN.{length}
-use Rattle.lines.proofs.Texts.{written-as, refused-length}
+use Rattle.printing.proofs.Texts.{written-as, refused-length}
 use Rattle.printing.proofs.Inputs.{header-refused, range, list-refused, forward, within, printed-is}
 use borrow.Author.Needs.{needs}
 use Rattle.printing.proofs.print.print_input.Statement.{statement}

@@ -1,7 +1,7 @@
 -- `printing::print::print_list`: the run's report and the part of its transcript that it filled.
 use native.Mathlib.Omega.{arith}
 use Rattle.printing.specs.Print.{room}
-use Rattle.lines.proofs.Texts.{written-as}
+use Rattle.printing.proofs.Texts.{written-as}
 use Rattle.printing.proofs.Runs.{fill-there, part-count, part-most, part-recorded, lines-are}
 use borrow.Author.Needs.{needs}
 use Rattle.printing.proofs.print.print_list.Statement.{statement}

@@ -4,8 +4,8 @@ use Prim.Native.Nat.{_-_, _≤_, _<_}
 use native.Mathlib.Omega.{arith}
 use lib.ListN.{length, drop}
 use Rattle.record.specs.Parse.{parseRecord}
-use Rattle.checking.specs.Check.{recordAnswer}
-use Rattle.checking.specs.declared.RecordAnswer.the-variants.{Record}
+use Rattle.transcript.specs.Check.{recordAnswer}
+use Rattle.transcript.specs.declared.check.RecordAnswer.the-variants.{Record}
 use Rattle.printing.proofs.Lines.{Going, begin, end, in-form, further, there, fits, on}
 use borrow.Author.Needs.{needs}
 use Rattle.printing.proofs.print.put_records.Statement.{statement}

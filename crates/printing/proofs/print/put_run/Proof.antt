@@ -3,11 +3,11 @@ use mathlib.Core.List.{List, [], _∷_, _++_}
 use Prim.Native.Nat.{ℕ, _+_, _≤_}
 use native.Mathlib.Omega.{arith}
 use lib.ListN.{length}
-use Rattle.checking.specs.Records.{records}
+use Rattle.transcript.specs.Records.{records}
 use Rattle.transcript.proofs.Writing.{Due, due-all, due-fits, due-next, due-none}
-use Rattle.lines.specs.Text.{bitsLine}
+use Rattle.printing.specs.Text.{bitsLine}
 use Rattle.printing.specs.Print.{linesOf, stopLines}
-use Rattle.lines.proofs.Texts.{three-parts}
+use Rattle.printing.proofs.Texts.{three-parts}
 use Rattle.printing.proofs.Lines.{run-length}
 use borrow.Author.Needs.{needs}
 use Rattle.printing.proofs.print.put_run.Statement.{statement}

@@ -3,10 +3,10 @@ use mathlib.Core.Path.{_≡_, refl, sym, ap}
 use mathlib.Core.List.{List}
 use Prim.Native.Nat.{ℕ, _+_, _≤_}
 use lib.ListN.{length}
-use Rattle.report.specs.declared.Stop.{Stop}
-use Rattle.transcript.specs.Answers.{Written}
+use Rattle.run.specs.declared.Stop.{Stop}
+use Rattle.transcript.specs.InnerWritten.{Written}
 use Rattle.printing.specs.Print.{stopLines}
-use Rattle.lines.proofs.Texts.{written-none}
+use Rattle.printing.proofs.Texts.{written-none}
 use borrow.Author.Needs.{needs}
 use Rattle.printing.proofs.print.put_stop.Statement.{statement}
 use Rattle.printing.proofs.print.put_stop.Tie as tie

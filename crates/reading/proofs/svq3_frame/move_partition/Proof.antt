@@ -7,8 +7,8 @@ use lib.IntN.{natAbs}
 use lib.ListN.{length-set}
 use Rattle.bits.specs.Code.{bitValue}
 use Rattle.vectors.proofs.Partitions.{num-most}
-use Rattle.predict.specs.Window.{Part}
-use Rattle.predict.proofs.Moves.{field-read}
+use Rattle.vectors.specs.Window.{Part}
+use Rattle.vectors.proofs.Moves.{field-read}
 use Rattle.reading.proofs.Vectors.{value-most}
 use Rattle.reading.proofs.Partitions.{part-at, held-at, moved-at}
 use Rattle.reading.proofs.svq3_frame.move_partition.Statement.{statement}

@@ -4,7 +4,7 @@ use mathlib.Core.Logic.{⊎-elim}
 use borrow.Author.Needs.{needs}
 use Rattle.bits.specs.Bits.{bitList}
 use Rattle.bits.proofs.Pairs.{pair-read, pair-refused}
-use Rattle.predict.proofs.Moves.{field-read}
+use Rattle.vectors.proofs.Moves.{field-read}
 use Rattle.reading.proofs.Steps.{step-no-vertical, step-no-horizontal, step-moved}
 use Rattle.reading.proofs.svq3_frame.read_partition.Statement.{statement}
 use Rattle.reading.proofs.svq3_frame.read_partition.Tie as tie

@@ -7,8 +7,8 @@ use lib.ListN.{length}
 use Rattle.bits.specs.Bits.{bitList}
 use Rattle.vectors.specs.Modes.{partitionWidth, partitionHeight, numMotionVectors}
 use Rattle.vectors.proofs.Partitions.{num-most}
-use Rattle.predict.specs.Predict.{fieldOf}
-use Rattle.predict.proofs.Following.{macroblock-cells, follows-start}
+use Rattle.picture.specs.Field.{fieldOf}
+use Rattle.vectors.proofs.Following.{macroblock-cells, follows-start}
 use Rattle.record.proofs.Padded.{length-noVectors}
 use Rattle.reading.specs.Read.{Moving, atFirst}
 use Rattle.reading.specs.Answers.{Holds}

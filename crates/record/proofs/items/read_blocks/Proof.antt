@@ -5,7 +5,7 @@ use native.Mathlib.Omega.{arith}
 use borrow.Author.Needs.{needs}
 use lib.ListN.{length, drop}
 use Rattle.bits.specs.Bits.{bitList}
-use Rattle.residual.specs.declared.svq3_coeff.ResidualBook.the-variants.{NormalScan}
+use Rattle.levels.specs.declared.svq3_coeff.ResidualBook.the-variants.{NormalScan}
 use Rattle.record.specs.Sides.{readSide}
 use Rattle.record.specs.Left.{leftSide}
 use Rattle.record.proofs.Left.{Goes, goes-all, side-on, side-stops, side-ends}

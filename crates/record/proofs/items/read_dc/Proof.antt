@@ -3,7 +3,7 @@ use mathlib.Core.Path.{refl}
 use native.Mathlib.Omega.{arith}
 use borrow.Author.Needs.{needs}
 use Rattle.bits.specs.Bits.{bitList}
-use Rattle.residual.specs.declared.svq3_coeff.ResidualBook.the-variants.{ChromaDc}
+use Rattle.levels.specs.declared.svq3_coeff.ResidualBook.the-variants.{ChromaDc}
 use Rattle.record.specs.Sides.{readSide}
 use Rattle.record.specs.Left.{leftSide}
 use Rattle.record.proofs.Left.{goes-all, side-on, side-stops, side-last}

@@ -2,7 +2,7 @@
 use mathlib.Core.Path.{_≡_, refl, sym, ap, _∙_}
 use Prim.Native.Nat.{ℕ}
 use denote.Ref.{now}
-use Rattle.outcome.specs.Entry.{stateOf}
+use Rattle.macroblock.specs.Entry.{stateOf}
 use Rattle.replay.specs.Replay.{Replay}
 use Rattle.replay.proofs.Replays.{not-asked, right, in-grid, sized, reference, not-checked, recorded, all-applied}
 use borrow.Author.Needs.{needs}

@@ -4,7 +4,7 @@ use Prim.Native.Nat.{_-_}
 use native.Mathlib.Omega.{arith}
 use denote.Ref.{now}
 use lib.ListN.{length}
-use Rattle.outcome.specs.Entry.{stateOf}
+use Rattle.macroblock.specs.Entry.{stateOf}
 use Rattle.replay.specs.Recorded.{allLeft}
 use Rattle.replay.proofs.Records.{Replaying, start, end, further, on}
 use Rattle.replay.proofs.replay.replay_records.Statement.{statement}

@@ -1,9 +1,9 @@
 -- `run::run::run` meets its contract: the list's check, then the run.
 use mathlib.Core.Path.{_≡_, sym, ap, _∙_}
 use denote.Ref.{now}
-use Rattle.outcome.specs.Entry.{stateOf}
-use Rattle.report.specs.Left.{Left}
-use Rattle.report.specs.declared.Report.{Report}
+use Rattle.macroblock.specs.Entry.{stateOf}
+use Rattle.run.specs.Left.{Left}
+use Rattle.run.specs.declared.Report.{Report}
 use Rattle.run.proofs.Whole.{listed, refused-list, no-call, some-calls}
 use borrow.Author.Needs.{needs}
 use Rattle.run.proofs.run.run.Statement.{statement}

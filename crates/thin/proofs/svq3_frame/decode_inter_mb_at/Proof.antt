@@ -44,30 +44,30 @@ use denote.Triple.Table.{entered, cited}
 use denote.Triple.Walked.{says, needs, Stays, stay-ref, stay-none, stay-none-slice, gave-slice, walkOf, goes-none, goes-ref, goes-none-slice, goes-gave-slice, Walks, ends-at, walked, walk-meets}
 use denote.Exit.{yes}
 use denote.Enum.Laws as EL
-use Rattle.outcome.specs.State.{State}
-use Rattle.outcome.specs.Decode.{decoded}
-use Rattle.outcome.specs.Entry.{stateOf, quantiserBy, left, cursorBy}
-use Rattle.outcome.proofs.Laws.{moved-quantiser}
-use Rattle.outcome.specs.declared.Cursor.{Cursor}
-use Rattle.outcome.proofs.Cursor as T
-use Rattle.outcome.proofs.Cursor.Laws as T′
-use Rattle.outcome.specs.declared.MbAnswer.{MbAnswer}
-use Rattle.outcome.proofs.MbAnswer as E
-use Rattle.outcome.proofs.MbAnswer.Laws as E′
-use Rattle.outcome.specs.declared.Frame.{Frame}
-use Rattle.outcome.proofs.Frame as V0
-use Rattle.outcome.proofs.Frame.Laws as V0′
-use Rattle.questions.specs.declared.Call.{Call}
-use Rattle.questions.proofs.Call as V1
-use Rattle.questions.proofs.Call.Laws as V1′
+use Rattle.state.specs.State.{State}
+use Rattle.macroblock.specs.Decode.{decoded}
+use Rattle.macroblock.specs.Entry.{stateOf, quantiserBy, left, cursorBy}
+use Rattle.macroblock.proofs.Laws.{moved-quantiser}
+use Rattle.state.specs.declared.Cursor.{Cursor}
+use Rattle.state.proofs.Cursor as T
+use Rattle.state.proofs.Cursor.Laws as T′
+use Rattle.macroblock.specs.declared.MbAnswer.{MbAnswer}
+use Rattle.macroblock.proofs.MbAnswer as E
+use Rattle.macroblock.proofs.MbAnswer.Laws as E′
+use Rattle.state.specs.declared.Frame.{Frame}
+use Rattle.state.proofs.Frame as V0
+use Rattle.state.proofs.Frame.Laws as V0′
+use Rattle.state.specs.declared.Call.{Call}
+use Rattle.state.proofs.Call as V1
+use Rattle.state.proofs.Call.Laws as V1′
 use Rattle.macroblock.proofs.svq3_frame.decode_inter_mb as callee
 use Rattle.macroblock.proofs.svq3_frame.decode_inter_mb.Symbol as callee-def
 use Rattle.macroblock.proofs.svq3_frame.decode_inter_mb.Symbol.{name as #macroblock·decode-inter-mb}
 use Rattle.macroblock.proofs.svq3_frame.decode_inter_mb.Met as callee-thm
-use Rattle.outcome.proofs.cursor_by as after
-use Rattle.outcome.proofs.cursor_by.Symbol as after-def
-use Rattle.outcome.proofs.cursor_by.Symbol.{name as #outcome·cursor-by}
-use Rattle.outcome.proofs.cursor_by.Met as after-thm
+use Rattle.macroblock.proofs.cursor_by as after
+use Rattle.macroblock.proofs.cursor_by.Symbol as after-def
+use Rattle.macroblock.proofs.cursor_by.Symbol.{name as #outcome·cursor-by}
+use Rattle.macroblock.proofs.cursor_by.Met as after-thm
 use Rattle.thin.proofs.svq3_frame.decode_inter_mb_at.Key.{name as #thin·decode-inter-mb-at}
 use Rattle.thin.proofs.svq3_frame.decode_inter_mb_at as decode-inter-mb-at
 use Rattle.thin.proofs.svq3_frame.decode_inter_mb_at.Statement as stated

@@ -3,7 +3,7 @@ use mathlib.Core.Path.{_≡_, refl}
 use Prim.Native.Nat.{_≤_, _-_}
 use native.Mathlib.Numerals.{add-one}
 use native.Mathlib.Omega.{arith}
-use Rattle.transcript.specs.Short.{allShort}
+use Rattle.transcript.specs.InnerSent.{allShort}
 use Rattle.transcript.proofs.write.all_short.Statement.{statement}
 use Rattle.transcript.proofs.write.all_short.Tie as tie
 

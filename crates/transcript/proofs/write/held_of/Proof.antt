@@ -7,8 +7,8 @@ use mir.Syntax.{w32}
 use Rattle.ints.specs.Z.{clampZ}
 use Rattle.ints.proofs.Same.{reads}
 use Rattle.ints.proofs.Fits.{read, back}
-use Rattle.transcript.specs.Short.{heldOf}
-use Rattle.transcript.proofs.Short.{held-is, held-small}
+use Rattle.transcript.specs.InnerSent.{heldOf}
+use Rattle.transcript.proofs.Sent.{held-is, held-small}
 use Rattle.transcript.proofs.write.held_of.Statement.{statement}
 use Rattle.transcript.proofs.write.held_of.Tie as tie
 

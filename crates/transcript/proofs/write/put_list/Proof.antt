@@ -1,7 +1,7 @@
 -- `transcript::write::put_list`: short numbers are the bytes that they are sent as; others go the long way.
 use mathlib.Core.Path.{sym, _∙_}
 use borrow.Author.Needs.{needs}
-use Rattle.transcript.proofs.Short.{short-fits, short-written}
+use Rattle.transcript.proofs.Sent.{short-fits, short-written}
 use Rattle.transcript.proofs.write.put_list.Statement.{statement}
 use Rattle.transcript.proofs.write.put_list.Tie as tie
 

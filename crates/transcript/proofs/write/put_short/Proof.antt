@@ -6,8 +6,8 @@ use borrow.Author.Needs.{needs}
 use mathlib.Core.List.{map}
 use lib.ListN.{length, take, length-set, length-map}
 use lib.Seq.{sets}
-use Rattle.transcript.specs.Short.{sentShort}
-use Rattle.transcript.proofs.Short.{sent-at, stored-turn}
+use Rattle.transcript.specs.InnerSent.{sentShort}
+use Rattle.transcript.proofs.Sent.{sent-at, stored-turn}
 use Rattle.transcript.proofs.write.put_short.Statement.{statement}
 use Rattle.transcript.proofs.write.put_short.Tie as tie
 

@@ -2,7 +2,7 @@
 use borrow.Author.Needs.{needs}
 use borrow.Author.Tests.{lt-ltb, le-ltb}
 use Rattle.ints.specs.Z.{if_then_else_}
-use Rattle.transcript.specs.Short.{sentShort}
+use Rattle.transcript.specs.InnerSent.{sentShort}
 use Rattle.transcript.proofs.write.sent_short.Statement.{statement}
 use Rattle.transcript.proofs.write.sent_short.Tie as tie
 

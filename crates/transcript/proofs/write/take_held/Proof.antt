@@ -7,8 +7,8 @@ use lib.IntN.{pos}
 use lib.ListN.{getD}
 use mir.Syntax.{w32}
 use Rattle.ints.proofs.Fits.{back}
-use Rattle.transcript.specs.Short.{heldOf, Held}
-use Rattle.transcript.proofs.Short.{held-turn}
+use Rattle.transcript.specs.InnerSent.{heldOf, Held}
+use Rattle.transcript.proofs.Sent.{held-turn}
 use Rattle.transcript.proofs.write.take_held.Statement.{statement}
 use Rattle.transcript.proofs.write.take_held.Tie as tie
 

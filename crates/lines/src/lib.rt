@@ -1,2 +1,0 @@
-// The printer's lines written.
-pub mod text;

@@ -1,1 +1,0 @@
-// Lists that end where their bytes end, as call lists and transcripts do: the definition and its laws.

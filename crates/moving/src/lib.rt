@@ -1,2 +1,0 @@
-// Compensation of a macroblock's partitions, in each plane.
-pub mod svq3_frame;

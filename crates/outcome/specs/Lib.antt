@@ -1,3 +1,0 @@
-pub mod State
-pub mod Decode
-pub mod Entry

@@ -1,5 +1,0 @@
-pub mod Reading
-pub mod Parsings
-pub mod Answers
-pub mod Short
-pub mod Places

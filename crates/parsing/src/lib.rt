@@ -1,2 +1,0 @@
-// Records of a transcript, read back from its bytes.
-pub mod parse;

@@ -1,7 +1,0 @@
-pub mod Tests
-pub mod Predictors
-pub mod Moves
-pub mod Storing
-pub mod Windows
-pub mod Following
-pub mod Examples

@@ -1,6 +1,0 @@
-pub mod Predict
-pub mod Units
-pub mod Stored
-pub mod Window
-pub mod Samples
-pub mod Difference

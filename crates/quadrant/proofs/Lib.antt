@@ -1,4 +1,0 @@
-pub mod Sums
-pub mod Turns
-pub mod Unsaturated
-pub mod Square

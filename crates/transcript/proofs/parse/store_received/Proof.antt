@@ -1,0 +1,52 @@
+-- `transcript::parse::store_received`: one number a turn.
+use mathlib.Core.Path.{_≡_, refl}
+use Prim.Native.Nat.{_≤_, _-_}
+use native.Mathlib.Omega.{arith}
+use borrow.Author.Needs.{needs}
+use lib.IntN.{pos}
+use lib.ListN.{length, take, getD, length-set}
+use lib.Seq.{sets}
+use mir.Syntax.{w32}
+use mir.Val.{toZ, ofZ}
+use Rattle.transcript.proofs.Sent.{stored-turn}
+use Rattle.transcript.proofs.parse.store_received.Statement.{statement}
+use Rattle.transcript.proofs.parse.store_received.Tie as tie
+
+abbrev Inv-loop : tie.InvT-loop
+Inv-loop out₀ t first count i₀ out i = (i ≤ count) × (length out ≡ length out₀) × (out ≡ sets out₀ first (take i t))
+
+abbrev μ-loop : tie.MeasureT-loop
+μ-loop out₀ t first count i₀ out i = count - i
+
+loop-holds : tie.Need-loop-holds Inv-loop μ-loop
+loop-holds c = (omega arith, refl, refl)
+
+loop-again : tie.Need-loop-again Inv-loop μ-loop
+loop-again c =
+    let a = c .before .before .before .args in
+    let l = c .before .before .loop in
+    let z : toZ w32 (ofZ w32 (getD (a .t .now) (l .i) (pos 0))) ≡ getD (a .t .now) (l .i) (pos 0) = search needs in
+    (omega arith, simp length-set (l .inv .1), rw (z, l .inv .2) (stored-turn (pos 0) (a .out .now) (a .first) (a .t .now) (l .i) (omega arith)))
+
+returns : tie.Need-returns Inv-loop μ-loop
+returns c =
+    let e : c .before .loop .i ≡ c .before .before .args .count = omega arith in
+    rw (← e) (c .before .loop .inv .2)
+
+pub store-received-spec : {M : Type 1} → statement M
+store-received-spec =
+    tie.close
+    (tie.spec
+    Inv-loop
+    μ-loop
+    loop-holds
+    (λ c. omega arith)
+    (λ c. omega arith)
+    (λ c. omega arith)
+    (λ c. omega arith)
+    (λ c. omega arith)
+    (λ c. omega arith)
+    (λ c. omega arith)
+    loop-again
+    (λ c. omega arith)
+    returns)

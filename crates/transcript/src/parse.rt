@@ -1,0 +1,277 @@
+// A record is read back from the bytes of a transcript.
+ghost use mathlib.Core.Path.{_≡_};
+ghost use mathlib.Core.Bool.{true};
+ghost use mathlib.Core.List.{List};
+ghost use Prim.Native.Nat.{_+_, _≤_, _<_};
+ghost use lib.IntN.{ℤ};
+ghost use lib.ListN.{length, take, drop};
+ghost use lib.Seq.{sets};
+ghost use Rattle.refusal.specs.Got.{mapGot};
+ghost use Rattle.number.specs.Number.{numberAnswer};
+ghost use Rattle.record.specs.Record.{noVectors, noLevels};
+ghost use Rattle.record.specs.Items.{itemPlace};
+ghost use Rattle.record.specs.Parse.{field, readSigneds, parseItem, parseItems, parseResidual, parseMotion};
+ghost use Rattle.record.specs.Answers.{Left};
+ghost use Rattle.transcript.specs.InnerParsing.{Parsing, placeAnswer};
+ghost use Rattle.transcript.specs.InnerPlace.{parsePlace};
+ghost use Rattle.transcript.specs.InnerReceived.{allShort, shortAt, Received};
+use levels::svq3_coeff::ListAnswer;
+use number::NumberAnswer;
+use number::SignedNumberAnswer;
+use number::read_number;
+use number::read_signed_number;
+use number::received_of;
+use record::Head;
+use record::items::group_end;
+use record::items::item_coded;
+use record::items::item_place;
+use record::place_head;
+use record::with_motion;
+use record::with_residual;
+use refusal::Refusal;
+use vectors::svq3_mb::num_motion_vectors;
+
+// What stands at the start of a record: its place and mode. The last number of an answer is the place behind the mode.
+pub enum PlaceAnswer {
+    // column and row of a skip, which has nothing more
+    Skip(u32, u32, usize),
+    // the head of another record, filled as far as its mode
+    Coded(Head, usize),
+    Refused(Refusal),
+}
+
+pub enum ParseAnswer {
+    // the numbers of a record, and the place after it
+    Parsed(Head, usize),
+    Refused(Refusal),
+}
+
+// A number that is at most `most`.
+fn read_field(bytes: &[u8], at: usize, most: u32) -> NumberAnswer
+    ensures { λ r. ⌜ r ≡ numberAnswer at (field most (drop at (now (bytes .entry)))) ⌝ }
+{
+    match read_number(bytes, at) {
+        NumberAnswer::Number(v, next) => {
+            if v <= most {
+                NumberAnswer::Number(v, next)
+            } else {
+                NumberAnswer::Refused(Refusal::FieldRange)
+            }
+        }
+        NumberAnswer::Refused(r) => NumberAnswer::Refused(r),
+    }
+}
+
+// Column, row and mode of the record at a place, which may lie anywhere, also past the end.
+pub fn parse_place(bytes: &[u8], at: usize, cols: u32, rows: u32) -> PlaceAnswer
+    ensures { λ r. ⌜ r ≡ placeAnswer at (parsePlace cols rows (drop at (now (bytes .entry)))) ⌝ }
+{
+    let NumberAnswer::Number(column, p) = read_number(bytes, at) else {
+        return PlaceAnswer::Refused(Refusal::NumberForm);
+    };
+    let NumberAnswer::Number(row, q) = read_number(bytes, p) else {
+        return PlaceAnswer::Refused(Refusal::NumberForm);
+    };
+    let NumberAnswer::Number(mode, next) = read_number(bytes, q) else {
+        return PlaceAnswer::Refused(Refusal::NumberForm);
+    };
+    if (column < cols) & (row < rows) & (mode <= 7) {
+        if mode == 0 {
+            return PlaceAnswer::Skip(column, row, next);
+        }
+        return PlaceAnswer::Coded(place_head(column, row, mode), next);
+    }
+    PlaceAnswer::Refused(Refusal::FieldRange)
+}
+
+// `count` signed numbers, stored from the place `first` on.
+fn read_signed_numbers(
+    out: &mut [i32],
+    bytes: &[u8],
+    at: usize,
+    first: usize,
+    count: usize,
+) -> ListAnswer
+    requires { ⌜ first + count ≤ length (now out) ⌝ }
+    ensures { λ r. ⌜ Left at (mapGot (sets (now (out .entry)) first) (readSigneds count (drop at (now (bytes .entry))))) r (now (out .exit)) ⌝ }
+{
+    let mut p = at;
+    let mut i = 0;
+    while i < count {
+        match read_signed_number(bytes, p) {
+            SignedNumberAnswer::SignedNumber(v, next) => {
+                out[first + i] = v;
+                p = next;
+                i += 1;
+            }
+            SignedNumberAnswer::Refused(r) => return ListAnswer::Refused(r),
+        }
+    }
+    ListAnswer::End(p)
+}
+
+fn wide(x: u8) -> u32
+    ensures { λ r. ⌜ r ≡ x ⌝ }
+{
+    x as u32
+}
+
+// Whether each of `count` bytes is a short number: one byte by itself.
+fn all_short(bytes: &[u8], at: usize, count: usize) -> bool
+    requires { ⌜ at + count ≤ length (now bytes) ⌝ }
+    ensures { λ r. ⌜ r ≡ allShort (now (bytes .entry)) at count ⌝ }
+{
+    let mut short = true;
+    let mut i = 0;
+    while i < count {
+        short = short & (bytes[at + i] < 128);
+        i += 1;
+    }
+    short
+}
+
+// Whether there are `count` bytes and each is a short number.
+fn short_at(bytes: &[u8], at: usize, count: usize) -> bool
+    ensures { λ r. ⌜ r ≡ shortAt (now (bytes .entry)) at count ⌝ }
+{
+    if bytes.len() < count {
+        return false;
+    }
+    if bytes.len() - count < at {
+        return false;
+    }
+    all_short(bytes, at, count)
+}
+
+// What `count` bytes stand for, each by itself: the first of sixteen.
+fn take_received(bytes: &[u8], at: usize, count: usize) -> [i32; 16]
+    requires { ⌜ (count ≤ 16) × (at + count ≤ length (now bytes)) ⌝ }
+    ensures { λ r. ⌜ Received (now (bytes .entry)) at count r ⌝ }
+{
+    let mut t = [0i32; 16];
+    let mut i = 0;
+    while i < count {
+        t[i] = received_of(wide(bytes[at + i]));
+        i += 1;
+    }
+    t
+}
+
+fn store_received(out: &mut [i32], t: &[i32; 16], first: usize, count: usize)
+    requires { ⌜ (count ≤ 16) × (length (now t) ≡ 16) × (first + count ≤ length (now out)) ⌝ }
+    ensures { λ _. ⌜ now (out .exit) ≡ sets (now (out .entry)) first (take count (now (t .entry))) ⌝ }
+{
+    let mut i = 0;
+    while i < count {
+        out[first + i] = t[i];
+        i += 1;
+    }
+}
+
+// `count` signed numbers, most of them short.
+fn read_list(out: &mut [i32], bytes: &[u8], at: usize, first: usize, count: usize) -> ListAnswer
+    requires { ⌜ (count ≤ 16) × (first + count ≤ length (now out)) ⌝ }
+    ensures { λ r. ⌜ Left at (mapGot (sets (now (out .entry)) first) (readSigneds count (drop at (now (bytes .entry))))) r (now (out .exit)) ⌝ }
+{
+    if short_at(bytes, at, count) {
+        let t = take_received(bytes, at, count);
+        store_received(out, &t, first, count);
+        return ListAnswer::End(at + count);
+    }
+    read_signed_numbers(out, bytes, at, first, count)
+}
+
+// List i, stored at its place.
+fn parse_item(levels: &mut [i32], bytes: &[u8], at: usize, i: usize) -> ListAnswer
+    requires { ⌜ (i < 26) × (length (now levels) ≡ 392) ⌝ }
+    ensures { λ r. ⌜ Left at (mapGot (sets (now (levels .entry)) (itemPlace i)) (parseItem i (drop at (now (bytes .entry))))) r (now (levels .exit)) ⌝ }
+{
+    let place = item_place(i);
+    if i < 16 {
+        return read_list(levels, bytes, at, place, 16);
+    }
+    if i < 18 {
+        return read_list(levels, bytes, at, place, 4);
+    }
+    // an AC list's first number belongs to the place behind this one
+    levels[place] = 0;
+    read_list(levels, bytes, at, place + 1, 15)
+}
+
+fn parse_items(levels: &mut [i32], bytes: &[u8], at: usize, pattern: u8) -> ListAnswer
+    requires { ⌜ length (now levels) ≡ 392 ⌝ }
+    ensures { λ r. ⌜ Left at (parseItems 26 0 pattern (now (levels .entry)) (drop at (now (bytes .entry)))) r (now (levels .exit)) ⌝ }
+{
+    let mut p = at;
+    let mut i = 0;
+    while i < 26 {
+        if item_coded(pattern, i) {
+            match parse_item(levels, bytes, p, i) {
+                ListAnswer::End(next) => {
+                    p = next;
+                    i += 1;
+                }
+                ListAnswer::Refused(r) => return ListAnswer::Refused(r),
+            }
+        } else {
+            i = group_end(i);
+        }
+    }
+    ListAnswer::End(p)
+}
+
+// Pattern, quantiser, levels.
+fn parse_residual(levels: &mut [i32], bytes: &[u8], at: usize, head: Head) -> ParseAnswer
+    requires { ⌜ now levels ≡ noLevels ⌝ }
+    ensures { λ r. ⌜ ((vs : List ℤ) → Parsing at (parseResidual head vs (drop at (now (bytes .entry)))) r vs (now (levels .exit))) ⌝ }
+{
+    match read_field(bytes, at, 47) {
+        NumberAnswer::Number(pattern, p) => match read_field(bytes, p, 31) {
+            NumberAnswer::Number(quantiser, q) => match parse_items(
+                levels,
+                bytes,
+                q,
+                pattern as u8,
+            ) {
+                ListAnswer::End(next) => {
+                    ParseAnswer::Parsed(with_residual(head, pattern, quantiser), next)
+                }
+                ListAnswer::Refused(r) => ParseAnswer::Refused(r),
+            },
+            NumberAnswer::Refused(r) => ParseAnswer::Refused(r),
+        },
+        NumberAnswer::Refused(r) => ParseAnswer::Refused(r),
+    }
+}
+
+// What follows the mode of a record that is no skip, into slices of zeros: precision, clipped count, vectors, and the residual.
+pub fn parse_motion(
+    vectors: &mut [i32],
+    levels: &mut [i32],
+    bytes: &[u8],
+    at: usize,
+    head: Head,
+) -> ParseAnswer
+    requires { ⌜ (now vectors ≡ noVectors) × (now levels ≡ noLevels) × (head .mode ≤ 7) ⌝ }
+    ensures { λ r. ⌜ Parsing at (parseMotion head (drop at (now (bytes .entry)))) r (now (vectors .exit)) (now (levels .exit)) ⌝ }
+{
+    let used = 2 * num_motion_vectors(head.mode);
+    match read_field(bytes, at, 2) {
+        NumberAnswer::Number(precision, p) => match read_field(bytes, p, used as u32) {
+            NumberAnswer::Number(clipped, q) => match read_signed_numbers(
+                vectors,
+                bytes,
+                q,
+                0,
+                used,
+            ) {
+                ListAnswer::End(next) => {
+                    parse_residual(levels, bytes, next, with_motion(head, precision, clipped))
+                }
+                ListAnswer::Refused(r) => ParseAnswer::Refused(r),
+            },
+            NumberAnswer::Refused(r) => ParseAnswer::Refused(r),
+        },
+        NumberAnswer::Refused(r) => ParseAnswer::Refused(r),
+    }
+}
