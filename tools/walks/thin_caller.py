@@ -84,7 +84,7 @@ def generate(s):
     w(f'  asked : (ν l : ℕ) (γ : GName) → ent 𝓤 (⋆ 𝓤 H A ({pre})) (Callee 𝓤 H A at-mem run .pre (to ν l γ))\n  asked ν l γ = qed W ({pre}) ∵ join ! $ frame ! $ done !\n')
     w(f'  abbrev Lasts : Type 0\n  Lasts = {nested([(lists(i) if i in muts else "Unit {0}") for i in range(k)] + [place] + ["Unit {0}"] * len(arg))}\n')
     w(f'  -- what the callee ensures\n  abbrev Said : {answer[0]} → Lasts → Type 0\n  Said m zs = {s["fact"]}\n')
-    w(f'  -- the result, and its machine value\n  abbrev res : {answer[0]} → Lasts → {result[0]}\n  res m zs = record {{ {result[2]} = m; {result[3]} = zs {comp(k)} }}\n')
+    w(f'  -- the result, and its machine value\n  abbrev res : {answer[0]} → Lasts → {result[0].split(".")[-1]}\n  res m zs = record {{ {result[2]} = m; {result[3]} = zs {comp(k)} }}\n')
     w(f'  abbrev value : Val → Lasts → Val\n  value u zs = vstruct (vcons u (vcons (mach (zs {comp(k)})) vnil))\n')
     w(f'  tells : (m : {answer[0]}) (u : Val) (zs : Lasts) → Is E.the-row m (u ∷ []) → Is T.the-row (zs {comp(k)}) (mach (zs {comp(k)}) ∷ []) → Is R.the-row (res m zs) (value u zs ∷ [])\n  tells m u zs is is′ = ((u ∷ [], (mach (zs {comp(k)}) ∷ [], tt)), (refl, (is, (is′, tt))))\n')
 

@@ -215,7 +215,8 @@ class Shape:
         """The `use` lines: of declared types, of the values' types, of the functions called, of the function itself."""
         out = [USES] + (['use denote.Enum.Laws as EL'] if self.laws == 'EL' else []) + ['use ' + u for u in uses]
         for name, of, as_name in types:
-            out.append(f'use {self.home(of, "specs")}.declared.{name}.{{{name}}}')
+            # a type that a module declares is named with it
+            out.append(f'use {self.home(of, "specs")}.declared.{name}.{{{name.split(".")[-1]}}}')
             out.append(f'use {self.home(of, "proofs")}.{name} as {as_name}\nuse {self.home(of, "proofs")}.{name}.Laws as {as_name}′')
         for j in range(self.nv):
             if self.is_struct(j):

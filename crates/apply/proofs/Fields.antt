@@ -10,16 +10,17 @@ use lib.IntN.{ℤ, pos}
 use lib.ListN.{set}
 use borrow.Author.Tests.{eq-eqb, ne-eqb}
 use Rattle.ints.specs.Z.{if_then_else_}
-use Rattle.picture.specs.Rows.{row, rows}
+use Rattle.picture.specs.InnerRows.{row, rows}
 use Rattle.picture.proofs.Laws.{row-more, rows-more}
 use Rattle.vectors.specs.Modes.{numMotionVectors}
-use Rattle.picture.specs.Field.{Field, fieldOf}
+use Rattle.picture.specs.Field.{Field}
+use Rattle.picture.specs.InnerField.{fieldOf}
 use Rattle.vectors.specs.Stored.{storedVectors, storedMarks, storedField}
 use Rattle.record.specs.Record.{Record, skipRecord}
 use Rattle.reading.specs.Bits.{callOf}
 use Rattle.apply.specs.Moved.{vectorX, vectorY}
 use Rattle.apply.specs.Apply.{storedUpTo, appliedField}
-use Rattle.apply.specs.Cells.{ownNumber}
+use Rattle.apply.specs.InnerCells.{ownNumber}
 
 -- ---- a turn of the loop over the cells of a row, and of the one over rows: a row begins at twice its first cell
 pub own-more : {l : List ℤ} (l₀ vs : List ℤ) (at four c : ℕ) {vx vy : ℤ} → l ≡ row l₀ at (ownNumber vs four) (2 * c) → vx ≡ vectorX vs (four / 2 ^ (4 * c) % 16) → vy ≡ vectorY vs (four / 2 ^ (4 * c) % 16)

@@ -7,7 +7,8 @@ use Prim.Native.Nat.{ℕ, _*_, _≤_, _<_}
 use native.Mathlib.Omega.{arith}
 use borrow.Author.Tests.{eq-eqb, ne-eqb}
 use Rattle.ints.specs.Z.{if_then_else_}
-use Rattle.picture.specs.Picture.{copied, Within}
+use Rattle.picture.specs.Picture.{copied}
+use Rattle.picture.specs.InnerPicture.{Within}
 use Rattle.vectors.specs.Modes.{numMotionVectors}
 use Rattle.record.specs.Record.{Record, skipRecord}
 use Rattle.record.specs.Range.{RecordRange}

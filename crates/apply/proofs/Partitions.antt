@@ -12,19 +12,20 @@ use lib.IntN.{ℤ, pos, negsuc, _+ℤ_}
 use lib.ListN.{length, getD}
 use Rattle.ints.specs.Z.{towardZero, floorZ, modZ}
 use Rattle.picture.specs.Painted.{Inside}
-use Rattle.picture.specs.Block.{BlockIn, blockPainted}
+use Rattle.picture.specs.InnerBlock.{BlockIn, blockPainted}
 use Rattle.picture.specs.declared.Block.{Block}
-use Rattle.picture.specs.Picture.{Within}
+use Rattle.picture.specs.InnerPicture.{Within}
 use Rattle.picture.proofs.Laws.{macroblock-inside, painted-length}
 use Rattle.compensation.specs.Formula.{formula}
-use Rattle.compensation.specs.Kernel.{originOf, windowBlock}
-use Rattle.compensation.specs.Block.{Whole, Span}
+use Rattle.compensation.specs.InnerKernel.{originOf, windowBlock}
+use Rattle.compensation.specs.InnerBlock.{Whole, Span}
 use Rattle.compensation.specs.Taps as taps
 use Rattle.compensation.proofs.Taps.{placed-block}
 use Rattle.vectors.specs.Modes.{partitionWidth, partitionHeight, numMotionVectors, offsetX, offsetY}
 use Rattle.vectors.proofs.Partitions.{cut, inside, inside-units}
 use Rattle.state.specs.declared.Call.{Call}
-use Rattle.apply.specs.Moved.{unit, planeLength, partX, partY, partBlock, vectorX, vectorY, movedBlock, movedOnce, movedUpTo}
+use Rattle.apply.specs.Moved.{unit, partX, partY, vectorX, vectorY, movedBlock, movedOnce, movedUpTo}
+use Rattle.apply.specs.InnerMoved.{planeLength, partBlock}
 
 -- a rectangle inside another
 pub sub-inside : {st x y W H size : ℕ} (a b w h : ℕ) → Inside st x y W H size → a + w ≤ W → b + h ≤ H → Inside st (x + a) (y + b) w h size

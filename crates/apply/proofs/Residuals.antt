@@ -13,10 +13,11 @@ use lib.Seq.{getD-take, getD-drop}
 use Rattle.ints.specs.Z.{if_then_else_, satZ}
 use Rattle.picture.specs.Painted.{Inside}
 use Rattle.transform.specs.Tables.{dequantCoeff, chromaCoeff}
-use Rattle.transform.specs.Residual.{placed, noLevels, scaled, weighed, rowsOf, columnsOf, rounded, residual, lumaResidual, chromaResidual}
+use Rattle.transform.specs.Residual.{placed, scaled, weighed, rowsOf, columnsOf, rounded, residual}
+use Rattle.transform.specs.InnerResidual.{noLevels, lumaResidual, chromaResidual}
 use Rattle.transform.specs.ChromaDc.{chromaDc}
 use Rattle.transform.specs.Added.{added}
-use Rattle.transform.specs.Four.{addedFour}
+use Rattle.transform.specs.InnerFour.{addedFour}
 use Rattle.transform.proofs.Square.{four-added}
 use Rattle.levels.specs.Pattern.{classOf, quadrantCoded}
 use Rattle.levels.proofs.ShortTable.{at}
@@ -25,7 +26,7 @@ use Rattle.record.specs.Items.{itemCoded, itemCount, itemPlace, itemLevels}
 use Rattle.record.specs.Range.{ListsRange, ItemRange}
 use Rattle.record.proofs.ListKinds.{is-luma, is-dc, is-ac}
 use Rattle.apply.specs.Blocks.{cellOfBlock, lumaUpTo, dcOf, chromaUpTo}
-use Rattle.apply.specs.Squares.{quadrantAdded, squareAdded}
+use Rattle.apply.specs.InnerSquares.{quadrantAdded, squareAdded}
 
 -- a quadrant lies in its macroblock
 pub quadrant-inside : {st x y size : ℕ} (q : ℕ) → q < 4 → Inside st x y 16 16 size → Inside st (x + 8 * (q % 2)) (y + 8 * (q / 2)) 8 8 size

@@ -24,7 +24,7 @@ use Rattle.state.specs.declared.Call.{Call}
 use Rattle.reading.specs.Read.{cellX, cellY, cellsWide, cellsHigh, storedAt}
 use Rattle.apply.specs.Moved.{vectorX, vectorY}
 use Rattle.apply.specs.Apply.{storedUpTo}
-use Rattle.apply.specs.Cells.{ownerOf, ownNumber}
+use Rattle.apply.specs.InnerCells.{ownerOf, ownNumber}
 
 -- ---- a cell lies in partition n exactly where it lies in the macroblock and n is its partition
 pub tile-test : (mode n x y c r : ℕ) → mode ≤ 7 → n < numMotionVectors mode

@@ -1,5 +1,6 @@
 pub mod Moved
 pub mod Blocks
-pub mod Squares
 pub mod Apply
-pub mod Cells
+pub mod InnerCells
+pub mod InnerMoved
+pub mod InnerSquares

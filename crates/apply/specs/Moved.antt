@@ -7,7 +7,6 @@ use lib.IntN.{ℤ, pos}
 use lib.ListN.{getD}
 use Rattle.ints.specs.Z.{towardZero}
 use Rattle.picture.specs.Painted.{painted}
-use Rattle.picture.specs.declared.Block.{Block}
 use Rattle.compensation.specs.Sample.{blockSample}
 use Rattle.vectors.specs.Modes.{partitionWidth, partitionHeight, offsetX, offsetY}
 use Rattle.state.specs.declared.Call.{Call}
@@ -20,14 +19,9 @@ abbrev pub vectorY : List ℤ → ℕ → ℤ
 vectorY vs i = getD vs (2 * i + 1) (pos 0)
 
 -- ---- compensation, in a plane that has 16 / u samples a macroblock each way: luma has u = 1; chroma, u = 2, halves place, span and vector toward zero
-
 abbrev pub unit : Bool → ℕ
 unit true = 2
 unit false = 1
-
--- the samples of such a plane
-abbrev pub planeLength : ℕ → ℕ → ℕ → ℕ
-planeLength u cols rows = 16 / u * (16 / u) * (cols * rows)
 
 -- where partition i starts
 unfoldable pub partX : ℕ → Call → ℕ → ℕ
@@ -35,17 +29,6 @@ partX u call i = (16 * call .column + offsetX (call .mode) i) / u
 
 unfoldable pub partY : ℕ → Call → ℕ → ℕ
 partY u call i = (16 * call .row + offsetY (call .mode) i) / u
-
--- its block, as a struct: for inner contracts
-abbrev pub partBlock : ℕ → ℕ → Call → ℕ → Block
-partBlock u cols call i =
-    record {
-      stride = 16 / u * cols;
-      x = partX u call i;
-      y = partY u call i;
-      w = partitionWidth (call .mode) / u;
-      h = partitionHeight (call .mode) / u;
-    }
 
 -- its samples
 unfoldable pub movedBlock : ℕ → ℕ → ℕ → List ℕ → Call → List ℤ → ℕ → ℕ → ℕ → ℕ

@@ -2,9 +2,11 @@
 ghost use mathlib.Core.Path.{_≡_};
 ghost use Prim.Native.Nat.{_*_, _<_, _≤_};
 ghost use lib.ListN.{length};
-ghost use Rattle.picture.specs.Picture.{lumaLength, chromaLength, cellCount, Sized, Within};
-ghost use Rattle.picture.specs.Field.{fieldOf};
-ghost use Rattle.record.specs.Record.{recordOf, skipRecord};
+ghost use Rattle.picture.specs.Picture.{lumaLength, chromaLength, cellCount};
+ghost use Rattle.picture.specs.InnerPicture.{Sized, Within};
+ghost use Rattle.picture.specs.InnerField.{fieldOf};
+ghost use Rattle.record.specs.InnerRecord.{recordOf};
+ghost use Rattle.record.specs.Record.{skipRecord};
 ghost use Rattle.record.specs.Range.{RecordRange};
 ghost use Rattle.apply.specs.Apply.{appliedLuma, appliedChroma, appliedField};
 use crate::svq3_frame::compensate_chroma;

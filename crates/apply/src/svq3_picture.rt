@@ -2,12 +2,13 @@
 ghost use mathlib.Core.Path.{_≡_};
 ghost use Prim.Native.Nat.{ℕ, _+_, _*_, _/_, _%_, _^_, _<_, _≤_};
 ghost use lib.ListN.{length};
-ghost use Rattle.picture.specs.Picture.{cellCount, Within};
-ghost use Rattle.picture.specs.Rows.{row};
+ghost use Rattle.picture.specs.Picture.{cellCount};
+ghost use Rattle.picture.specs.InnerPicture.{Within};
+ghost use Rattle.picture.specs.InnerRows.{row};
 ghost use Rattle.vectors.specs.Modes.{numMotionVectors};
-ghost use Rattle.picture.specs.Field.{fieldOf};
+ghost use Rattle.picture.specs.InnerField.{fieldOf};
 ghost use Rattle.apply.specs.Apply.{storedUpTo};
-ghost use Rattle.apply.specs.Cells.{ownerOf, ownNumber};
+ghost use Rattle.apply.specs.InnerCells.{ownerOf, ownNumber};
 use state::Call;
 use vectors::svq3_frame::mark_row;
 

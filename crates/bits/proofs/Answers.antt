@@ -8,8 +8,10 @@ use native.Mathlib.Omega.{arith}
 use lib.IntN.{ℤ}
 use Rattle.refusal.specs.Got.{Got, got, refused, mapGot}
 use Rattle.refusal.specs.declared.Refusal.{Refusal}
-use Rattle.bits.specs.Code.{code, CodeRange, codeAnswer}
-use Rattle.bits.specs.Signed.{signedOf, signedCode, signedAnswer}
+use Rattle.bits.specs.Code.{code, CodeRange}
+use Rattle.bits.specs.InnerCode.{codeAnswer}
+use Rattle.bits.specs.Signed.{signedOf, signedCode}
+use Rattle.bits.specs.InnerSigned.{signedAnswer}
 use Rattle.bits.specs.declared.svq3.CodeAnswer.the-variants.{Code, Refused}
 use Rattle.bits.specs.declared.svq3_mv.SignedAnswer.the-variants as signed
 use Rattle.bits.proofs.Unique.{code-format}

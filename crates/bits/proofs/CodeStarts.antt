@@ -10,8 +10,9 @@ use lib.Dec.{T, eqb, eqb→eq}
 use lib.ListN.{drop}
 use Rattle.refusal.specs.Got.{Got, got, refused, after}
 use Rattle.bits.specs.Bits.{odd, byteBits}
-use Rattle.bits.specs.Code.{codeFrom, code, bitValue, codeAnswer}
-use Rattle.bits.specs.Starts.{Short, Starts, Begins}
+use Rattle.bits.specs.Code.{codeFrom, code, bitValue}
+use Rattle.bits.specs.InnerCode.{codeAnswer}
+use Rattle.bits.specs.InnerStarts.{Short, Starts, Begins}
 use Rattle.bits.specs.declared.svq3.CodeAnswer.the-variants.{Code}
 use Rattle.bits.proofs.Table.{both-left, both-right, every, at}
 use Rattle.bits.proofs.CodeStep.{moved, value-le}

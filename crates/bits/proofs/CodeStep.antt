@@ -11,7 +11,8 @@ use lib.ListN.{length, getD, drop}
 use Rattle.refusal.specs.Got.{Got, got, refused, after}
 use Rattle.refusal.specs.declared.Refusal.the-variants.{Truncated, BadBitWidth}
 use Rattle.bits.specs.Bits.{bitList}
-use Rattle.bits.specs.Code.{codeFrom, bitValue, codeAnswer}
+use Rattle.bits.specs.Code.{codeFrom, bitValue}
+use Rattle.bits.specs.InnerCode.{codeAnswer}
 use Rattle.bits.specs.declared.svq3.CodeAnswer.{CodeAnswer}
 use Rattle.bits.specs.declared.svq3.CodeAnswer.the-variants.{Code, Refused}
 use Rattle.bits.proofs.BitAt.{past, here}

@@ -15,10 +15,11 @@ use Rattle.refusal.specs.Got.{got, mapGot}
 use Rattle.refusal.specs.declared.Refusal.{Refusal}
 use Rattle.bits.specs.Bits.{odd, byteBits, bitList}
 use Rattle.bits.specs.Code.{code}
-use Rattle.bits.specs.Signed.{signedOf, signedCode, signedAnswer}
-use Rattle.bits.specs.Starts.{Begins}
-use Rattle.bits.specs.Window.{topBits, Shows}
-use Rattle.bits.specs.Pair.{signedAt, withSecond, pairFrom}
+use Rattle.bits.specs.Signed.{signedOf, signedCode}
+use Rattle.bits.specs.InnerSigned.{signedAnswer}
+use Rattle.bits.specs.InnerStarts.{Begins}
+use Rattle.bits.specs.InnerWindow.{topBits, Shows}
+use Rattle.bits.specs.InnerPair.{signedAt, withSecond, pairFrom}
 use Rattle.bits.specs.declared.svq3_mv.SignedAnswer.{SignedAnswer}
 use Rattle.bits.specs.declared.svq3_mv.SignedAnswer.the-variants.{Value, Refused}
 use Rattle.bits.specs.declared.pair.PairAnswer.the-variants as pair

@@ -10,7 +10,7 @@ use lib.Dec.{eqb}
 use lib.ListN.{length, getD, take, drop}
 use lib.Seq.{take-at, drop-at, drop-drop}
 use Rattle.bits.specs.Bits.{odd, byteBits, bitList}
-use Rattle.bits.specs.Window.{topBits, Shows}
+use Rattle.bits.specs.InnerWindow.{topBits, Shows}
 
 -- only the 64 lowest bits of w count
 top-mod : (n w v : ℕ) → w % 2 ^ 64 ≡ v % 2 ^ 64 → topBits n w ≡ topBits n v

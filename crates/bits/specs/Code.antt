@@ -7,8 +7,6 @@ use lib.Dec.{leb}
 use Rattle.refusal.specs.Got.{Got, got, refused, after}
 use Rattle.refusal.specs.declared.Refusal.the-variants.{Truncated, BadBitWidth}
 use Rattle.bits.specs.Bits.{odd}
-use Rattle.bits.specs.declared.svq3.CodeAnswer.{CodeAnswer}
-use Rattle.bits.specs.declared.svq3.CodeAnswer.the-variants.{Code, Refused}
 
 abbrev pub bitValue : Bool → ℕ
 bitValue true = 1
@@ -43,8 +41,3 @@ placesIn (suc f) m = cond (leb m 1) 0 (suc (placesIn f (m / 2)))
 -- the bits of code k: its data bits are the binary places of k + 1 after the leading 1
 unfoldable pub codeBits : ℕ → List Bool
 codeBits k = marked (placesIn 31 (k + 1)) (k + 1)
-
--- the answer of a reader that started at a place
-abbrev pub codeAnswer : ℕ → Got ℕ → CodeAnswer
-codeAnswer at (got k n) = Code k (at + n)
-codeAnswer at (refused r) = Refused r

@@ -1,6 +1,8 @@
 pub mod Bits
 pub mod Code
-pub mod Starts
-pub mod Window
 pub mod Signed
-pub mod Pair
+pub mod InnerCode
+pub mod InnerPair
+pub mod InnerSigned
+pub mod InnerStarts
+pub mod InnerWindow

@@ -1,14 +1,12 @@
 -- The signed code: magnitude (k + 1) / 2 floored, positive for odd k.
 -- Assumes nothing.
-use mathlib.Core.Bool.{Bool, true, false, cond}
+use mathlib.Core.Bool.{Bool, cond}
 use mathlib.Core.List.{List}
 use Prim.Native.Nat.{ℕ, suc, _+_, _-_, _*_, _/_, _^_, _<_}
 use lib.IntN.{ℤ, pos, negsuc, negℤ, natAbs}
-use Rattle.refusal.specs.Got.{Got, got, refused, mapGot}
+use Rattle.refusal.specs.Got.{Got, mapGot}
 use Rattle.bits.specs.Bits.{odd}
 use Rattle.bits.specs.Code.{code, codeBits}
-use Rattle.bits.specs.declared.svq3_mv.SignedAnswer.{SignedAnswer}
-use Rattle.bits.specs.declared.svq3_mv.SignedAnswer.the-variants.{Value, Refused}
 
 unfoldable pub signedOf : ℕ → ℤ
 signedOf k = cond (odd k) (pos ((k + 1) / 2)) (negℤ (pos ((k + 1) / 2)))
@@ -27,7 +25,3 @@ signedBits z = codeBits (codeOfSigned z)
 -- from -(2^31 - 1) to 2^31 - 1
 abbrev pub SignedRange : ℤ → Type 0
 SignedRange z = natAbs z < 2 ^ 31
-
-abbrev pub signedAnswer : ℕ → Got ℤ → SignedAnswer
-signedAnswer at (got z n) = Value z (at + n)
-signedAnswer at (refused r) = Refused r

@@ -1,6 +1,6 @@
 // The start of a universal code: what its first nine bits say.
 ghost use Prim.Native.Nat.{_<_};
-ghost use Rattle.bits.specs.Starts.{Begins};
+ghost use Rattle.bits.specs.InnerStarts.{Begins};
 
 // Of nine bits, the first a marker.
 pub struct CodeStart {

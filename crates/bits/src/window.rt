@@ -5,7 +5,7 @@ ghost use mathlib.Core.List.{List};
 ghost use Prim.Native.Nat.{_+_, _*_, _≤_, _<_};
 ghost use lib.ListN.{length, drop};
 ghost use Rattle.bits.specs.Bits.{bitList};
-ghost use Rattle.bits.specs.Window.{Shows};
+ghost use Rattle.bits.specs.InnerWindow.{Shows};
 
 // The `left` highest bits of the word are the bits from a place on.
 pub struct Window {

@@ -9,10 +9,10 @@ use native.Mathlib.Omega.{arith}
 use lib.Arith.{digits-div, digits-mod}
 use lib.ListN.{length, getD, set, replicate}
 use Rattle.picture.specs.Painted.{Inside, painted}
-use Rattle.picture.specs.Rows.{row, rows}
+use Rattle.picture.specs.InnerRows.{row, rows}
 use Rattle.picture.proofs.Laws.{more, row-same, row-other, row-more, rows-painted, painted-values}
-use Rattle.compensation.specs.Kernel.{mixedTaps, mixedAt, mixedRow, mixedBlock}
-use Rattle.compensation.specs.Lanes.{laneOf, laneAt, tiled, takenAt, Holds, mixedLane}
+use Rattle.compensation.specs.InnerKernel.{mixedTaps, mixedAt, mixedRow, mixedBlock}
+use Rattle.compensation.specs.InnerLanes.{laneOf, laneAt, tiled, takenAt, Holds, mixedLane}
 use Rattle.compensation.specs.declared.kernel.Mix.{Mix}
 
 -- ---- lane k of a tile of w columns: row k / w, column k % w

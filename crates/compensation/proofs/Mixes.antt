@@ -9,7 +9,7 @@ use Rattle.ints.specs.Z.{if_then_else_}
 use Rattle.picture.specs.Painted.{painted}
 use Rattle.picture.proofs.Laws.{painted-values}
 use Rattle.compensation.specs.Formula.{half, third, along, third2d, formula}
-use Rattle.compensation.specs.Kernel.{weighed, raised, mixedTaps, mixedAt, mixedRow, mixedBlock, MixFor, way, mixes, mixCode, mixSaid, fourAt, fourRow, fourBlock}
+use Rattle.compensation.specs.InnerKernel.{weighed, raised, mixedTaps, mixedAt, mixedRow, mixedBlock, MixFor, way, mixes, mixCode, mixSaid, fourAt, fourRow, fourBlock}
 use Rattle.compensation.specs.declared.kernel.Mix.{Mix}
 
 -- ---- taps that stand for their means

@@ -11,7 +11,7 @@ use Rattle.picture.specs.Painted.{Inside}
 use Rattle.picture.proofs.Laws.{both-true}
 use Rattle.state.specs.Questions.{sidesFit}
 use Rattle.state.proofs.Laws.{four-true}
-use Rattle.compensation.specs.Block.{Whole, Span}
+use Rattle.compensation.specs.InnerBlock.{Whole, Span}
 
 module _ (w h size : ℕ) where
   pub plane-whole : sidesFit 65536 w h size ≡ true → Whole w h size

@@ -12,7 +12,7 @@ use lib.IntN.{ℤ, pos, negsuc, natAbs, _+ℤ_, _-ℤ_}
 use lib.Signed.{pos-natAbs, leZ}
 use lib.ListN.{length, getD, replicate}
 use Rattle.picture.specs.Painted.{painted}
-use Rattle.picture.specs.Rows.{row}
+use Rattle.picture.specs.InnerRows.{row}
 use Rattle.picture.proofs.Laws.{more, row-same, painted-values, both-true}
 use Rattle.ints.specs.Z.{if_then_else_, clampZ, floorZ, modZ}
 use mir.Syntax.{w64}
@@ -22,11 +22,11 @@ use Rattle.ints.proofs.Linear.{z-rules, add-z, diff-z, abs-z, mag-z}
 use Rattle.ints.proofs.Laws.{clamp-low, floor-shift}
 use Rattle.compensation.specs.Sample.{nearest, tap, sampleAt, sixths, blockSample}
 use Rattle.compensation.specs.Formula.{along, formula}
-use Rattle.compensation.specs.Block.{Whole, Span}
-use Rattle.compensation.specs.Taps.{Placed, TapsIn, liesIn}
+use Rattle.compensation.specs.InnerBlock.{Whole, Span}
+use Rattle.compensation.specs.InnerTaps.{Placed, TapsIn, liesIn}
 use Rattle.compensation.specs.declared.svq3_mc.Taps.{Taps}
 use Rattle.compensation.proofs.Sides.{line-small}
-use Rattle.compensation.specs.Kernel.{originOf, near, nearFrom, lineAt, windowAt, windowBlock, fourAt, fourRow, fourBlock, extra}
+use Rattle.compensation.specs.InnerKernel.{originOf, near, nearFrom, lineAt, windowAt, windowBlock, fourAt, fourRow, fourBlock, extra}
 
 -- ---- places before and past a line of n
 module _ (n : ℕ) where

@@ -7,9 +7,9 @@ use Prim.Native.Nat.{ℕ, _+_, _-_, _*_, _≤_, _<_}
 use native.Mathlib.Nat.{eq-or-lt-of-le, eq-zero-or-pos}
 use native.Mathlib.Omega.{arith}
 use lib.ListN.{length, getD, replicate}
-use Rattle.picture.specs.Rows.{row, run}
+use Rattle.picture.specs.InnerRows.{row, run}
 use Rattle.picture.proofs.Laws.{row-same, row-other}
-use Rattle.compensation.specs.Kernel.{near, nearFrom, picked, pickedAt, lineAt, windowAt, windowBlock, fourBlock, runAt, edgeAt, Wide}
+use Rattle.compensation.specs.InnerKernel.{near, nearFrom, picked, pickedAt, lineAt, windowAt, windowBlock, fourBlock, runAt, edgeAt, Wide}
 use Rattle.compensation.proofs.Taps.{four-taps, column-is}
 
 -- no row

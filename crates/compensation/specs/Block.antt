@@ -1,9 +1,8 @@
 -- The compensated block: what is asked of it, and what it leaves.
 -- Assumes nothing.
-use mathlib.Core.Path.{_≡_}
 use mathlib.Core.Bool.{_&&_}
 use mathlib.Core.List.{List}
-use Prim.Native.Nat.{ℕ, _*_, _<_, _≤_}
+use Prim.Native.Nat.{ℕ}
 use lib.IntN.{ℤ}
 use lib.ListN.{length}
 use Rattle.ints.specs.Z.{if_then_else_, towardZero}
@@ -13,17 +12,6 @@ use Rattle.state.specs.Questions.{sidesFit}
 use Rattle.compensation.specs.Sample.{blockSample}
 use Rattle.compensation.specs.declared.svq3_mc.BlockAnswer.{BlockAnswer}
 use Rattle.compensation.specs.declared.svq3_mc.BlockAnswer.the-variants.{Done, Refused}
-
--- a plane with a sample for each of its places
-pub record Whole (width height size : ℕ) : Type 0 where
-  pub columns : (0 < width) × (width ≤ 65536)
-  pub lines : (0 < height) × (height ≤ 65536)
-  pub all : size ≡ width * height
-
--- spans that a partition, or a block asked for alone, may have
-pub record Span (w h : ℕ) : Type 0 where
-  pub across : (0 < w) × (w ≤ 16)
-  pub down : (0 < h) × (h ≤ 16)
 
 -- a plane of at most 65,536 a side: else 2; spans 1 to 16 and an output of just that size: else 5
 unfoldable pub blockAnswer : ℕ → ℕ → ℕ → ℕ → ℕ → ℕ → BlockAnswer

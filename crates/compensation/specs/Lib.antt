@@ -1,6 +1,7 @@
 pub mod Formula
 pub mod Sample
 pub mod Block
-pub mod Kernel
-pub mod Lanes
-pub mod Taps
+pub mod InnerBlock
+pub mod InnerKernel
+pub mod InnerLanes
+pub mod InnerTaps

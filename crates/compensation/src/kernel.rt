@@ -3,11 +3,11 @@ ghost use mathlib.Core.Path.{_≡_};
 ghost use Prim.Native.Nat.{_+_, _*_, _-_, _<_, _≤_};
 ghost use lib.ListN.{length, getD};
 ghost use Rattle.ints.specs.Z.{if_then_else_};
-ghost use Rattle.picture.specs.Block.{BlockIn, blockPainted};
-ghost use Rattle.picture.specs.Rows.{row};
+ghost use Rattle.picture.specs.InnerBlock.{BlockIn, blockPainted};
+ghost use Rattle.picture.specs.InnerRows.{row};
 ghost use Rattle.compensation.specs.Formula.{formula};
-ghost use Rattle.compensation.specs.Kernel.{weighed, raised, mixedTaps, mixedRow, mixedBlock, SumsTo12, FromSquare, MixFor, way, mixes, mixCode, fourBlock, extra};
-ghost use Rattle.compensation.specs.Block.{Span};
+ghost use Rattle.compensation.specs.InnerKernel.{weighed, raised, mixedTaps, mixedRow, mixedBlock, SumsTo12, FromSquare, MixFor, way, mixes, mixCode, fourBlock, extra};
+ghost use Rattle.compensation.specs.InnerBlock.{Span};
 use picture::Block;
 use picture::rows::store_row;
 

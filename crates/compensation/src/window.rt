@@ -2,9 +2,9 @@
 ghost use mathlib.Core.Path.{_≡_};
 ghost use Prim.Native.Nat.{ℕ, _+_, _-_, _*_, _%_, _<_, _≤_};
 ghost use lib.ListN.{length, getD, replicate};
-ghost use Rattle.picture.specs.Rows.{row, run};
-ghost use Rattle.compensation.specs.Kernel.{originOf, near, nearFrom, picked, pickedAt, windowAt, Wide, runAt, edgeAt};
-ghost use Rattle.compensation.specs.Block.{Whole};
+ghost use Rattle.picture.specs.InnerRows.{row, run};
+ghost use Rattle.compensation.specs.InnerKernel.{originOf, near, nearFrom, picked, pickedAt, windowAt, Wide, runAt, edgeAt};
+ghost use Rattle.compensation.specs.InnerBlock.{Whole};
 use ints::clamp_i64;
 use picture::Size;
 use picture::rows::store_row;

@@ -13,7 +13,7 @@ use mir.Syntax.{Width, w32}
 use mir.Val.{SFits}
 use mir.Facts.{toZ-ofZ}
 use Rattle.ints.specs.Z.{clampZ, satZ, overZ, clip1Z, floorZ, modZ, leastI32, mostI32}
-use Rattle.ints.specs.Held.{heldZ}
+use Rattle.ints.specs.InnerHeld.{heldZ}
 use Rattle.ints.specs.declared.Held.{Held}
 use Rattle.ints.proofs.Fits.{read}
 use Rattle.ints.proofs.Linear.{up, down, z-rules, add-z, diff-z, times-z, mag-z, min-z, clamp-z, sat-z, clip1-z, floor-z}

@@ -2,7 +2,7 @@
 ghost use mathlib.Core.Path.{_≡_};
 ghost use lib.IntN.{_+ℤ_, _*ℤ_};
 ghost use Rattle.ints.specs.Z.{satZ, clampZ, minZ, maxZ, medianZ, towardZero};
-ghost use Rattle.ints.specs.Held.{heldZ};
+ghost use Rattle.ints.specs.InnerHeld.{heldZ};
 
 const I32_MIN: i64 = -2147483648;
 

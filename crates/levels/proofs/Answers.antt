@@ -9,8 +9,9 @@ use lib.Seq.{sets}
 use Rattle.refusal.specs.Got.{Got, got, refused}
 use Rattle.refusal.specs.declared.Refusal.{Refusal}
 use Rattle.bits.proofs.Answers.{Answered}
-use Rattle.levels.specs.Pattern.{patternAnswer}
-use Rattle.levels.specs.Levels.{zeros, Decoded}
+use Rattle.levels.specs.InnerPattern.{patternAnswer}
+use Rattle.levels.specs.Levels.{zeros}
+use Rattle.levels.specs.InnerLevels.{Decoded}
 use Rattle.levels.specs.declared.svq3_cbp.CbpAnswer.the-variants as cbp
 use Rattle.levels.specs.declared.svq3_coeff.ListAnswer.the-variants.{End, Refused}
 

@@ -9,7 +9,8 @@ use borrow.Author.Tests.{lt-ltb, le-ltb, ltb-true, ltb-false, eq-eqb, ne-eqb, eq
 use lib.Dec.{T, lit<, eqb, ltb, leb, eqb→eq, ltb→lt, leb→le}
 use lib.IntN.{ℤ, pos, negsuc, negℤ, natAbs}
 use lib.ListN.{getD}
-use Rattle.levels.specs.Book.{half, magnitudes, runs, escape, positions, least, chromaBase, escapeMagnitude, magnitude, run, levelOf, level, resolve, entryOf, escapeCode, oddCode, codeOfLevel, codeOf}
+use Rattle.levels.specs.Book.{half, magnitudes, runs, escape, positions, least, chromaBase, escapeMagnitude, magnitude, run, levelOf, level, resolve, entryOf, escapeCode, oddCode, codeOfLevel}
+use Rattle.levels.specs.InnerBook.{codeOf}
 use Rattle.levels.specs.declared.svq3_coeff.ResidualBook.{ResidualBook}
 use Rattle.levels.specs.declared.svq3_coeff.ResidualBook.the-variants.{NormalScan, ChromaDc}
 use Rattle.levels.specs.declared.svq3_coeff.LevelRun.the-variants.{Pair}

@@ -12,12 +12,14 @@ use Rattle.refusal.specs.Format.{Format}
 use Rattle.refusal.specs.declared.Refusal.{Refusal}
 use Rattle.refusal.specs.declared.Refusal.the-variants.{InvalidFrameCode}
 use Rattle.refusal.proofs.Formats.{renamed}
-use Rattle.bits.specs.Code.{code, codeAnswer}
+use Rattle.bits.specs.Code.{code}
+use Rattle.bits.specs.InnerCode.{codeAnswer}
 use Rattle.bits.specs.declared.svq3.CodeAnswer.the-variants as read
 use Rattle.bits.proofs.Unique.{code-format}
 use Rattle.bits.proofs.Answers.{Answered, code-answered, code-refused}
 use Rattle.levels.specs.Lists.{placeOf}
-use Rattle.levels.specs.Pattern.{patterns, patternCode, patternEntry, pattern, patternBits, PatternRange, patternAnswer}
+use Rattle.levels.specs.Pattern.{patterns, patternCode, pattern, patternBits, PatternRange}
+use Rattle.levels.specs.InnerPattern.{patternEntry, patternAnswer}
 use Rattle.levels.specs.declared.svq3_cbp.CbpEntry.the-variants.{Entry, Missing}
 use Rattle.levels.specs.declared.svq3_cbp.CbpAnswer.the-variants.{Pattern, Refused}
 use Rattle.levels.proofs.ShortTable.{both-left, both-right, at}

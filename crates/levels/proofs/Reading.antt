@@ -16,7 +16,8 @@ use Rattle.bits.proofs.Answers.{Answered}
 use Rattle.levels.specs.Book.{positions}
 use Rattle.levels.specs.Lists.{placeOf, listOf}
 use Rattle.levels.specs.Scan.{scan, raster}
-use Rattle.levels.specs.Levels.{zeros, levelRun, levelsFrom, levels, block, stepAnswer, Decoded}
+use Rattle.levels.specs.Levels.{zeros, levelRun, levelsFrom, levels, block}
+use Rattle.levels.specs.InnerLevels.{stepAnswer, Decoded}
 use Rattle.levels.specs.declared.svq3_coeff.ResidualBook.{ResidualBook}
 use Rattle.levels.specs.declared.svq3_coeff.ResidualBook.the-variants.{NormalScan, ChromaDc}
 use Rattle.levels.specs.declared.svq3_coeff.LevelRun.{LevelRun}

@@ -19,13 +19,15 @@ use Rattle.refusal.specs.declared.Refusal.{Refusal}
 use Rattle.refusal.proofs.Formats.{bounded}
 use Rattle.bits.specs.Bits.{bitList}
 use Rattle.bits.specs.Code.{code, codeFrom, marked, placesIn, codeBits}
-use Rattle.bits.specs.Window.{Shows}
+use Rattle.bits.specs.InnerWindow.{Shows}
 use Rattle.bits.proofs.BitAt.{length-bits}
 use Rattle.bits.proofs.Windows.{sevenBits, starts-seven, starts-one}
-use Rattle.levels.specs.Entries.{normalScan, chromaDc}
-use Rattle.levels.specs.Book.{magnitudes, runs, positions, least, chromaBase, resolve, entryOf, escapeCode, oddCode, codeOfLevel, codeOf, InBook}
-use Rattle.levels.specs.Short.{entries, entrySize, entryRun, entryLevel}
-use Rattle.levels.specs.Levels.{levelRun, stepAnswer, Stepped}
+use Rattle.levels.specs.InnerEntries.{normalScan, chromaDc}
+use Rattle.levels.specs.Book.{magnitudes, runs, positions, least, chromaBase, resolve, entryOf, escapeCode, oddCode, codeOfLevel}
+use Rattle.levels.specs.InnerBook.{codeOf, InBook}
+use Rattle.levels.specs.InnerShort.{entries, entrySize, entryRun, entryLevel}
+use Rattle.levels.specs.Levels.{levelRun}
+use Rattle.levels.specs.InnerLevels.{stepAnswer, Stepped}
 use Rattle.levels.specs.declared.svq3_coeff.ResidualBook.{ResidualBook}
 use Rattle.levels.specs.declared.svq3_coeff.ResidualBook.the-variants.{NormalScan, ChromaDc}
 use Rattle.levels.specs.declared.svq3_coeff.LevelRun.{LevelRun}

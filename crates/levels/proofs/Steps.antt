@@ -11,12 +11,15 @@ use lib.IntN.{ℤ}
 use Rattle.refusal.specs.Format.{Format}
 use Rattle.refusal.specs.declared.Refusal.{Refusal}
 use Rattle.refusal.proofs.Formats.{renamed}
-use Rattle.bits.specs.Code.{code, codeBits, CodeRange, codeAnswer}
+use Rattle.bits.specs.Code.{code, codeBits, CodeRange}
+use Rattle.bits.specs.InnerCode.{codeAnswer}
 use Rattle.bits.specs.declared.svq3.CodeAnswer.the-variants as read
 use Rattle.bits.proofs.Unique.{code-format}
 use Rattle.bits.proofs.Answers.{Answered, code-answered, code-refused}
-use Rattle.levels.specs.Book.{run, level, resolve, codeOf, InBook}
-use Rattle.levels.specs.Levels.{levelRun, stepAnswer}
+use Rattle.levels.specs.Book.{run, level, resolve}
+use Rattle.levels.specs.InnerBook.{codeOf, InBook}
+use Rattle.levels.specs.Levels.{levelRun}
+use Rattle.levels.specs.InnerLevels.{stepAnswer}
 use Rattle.levels.specs.declared.svq3_coeff.ResidualBook.{ResidualBook}
 use Rattle.levels.specs.declared.svq3_coeff.LevelRun.{LevelRun}
 use Rattle.levels.specs.declared.svq3_coeff.LevelRun.the-variants.{End, Pair}

@@ -17,7 +17,8 @@ use Rattle.refusal.specs.Format.{Came, Format}
 use Rattle.refusal.specs.declared.Refusal.the-variants.{LevelPosition}
 use Rattle.refusal.proofs.Formats.{got-value, got-count, never}
 use Rattle.bits.specs.Code.{codeBits, CodeRange}
-use Rattle.levels.specs.Book.{positions, codeOfLevel, codeOf}
+use Rattle.levels.specs.Book.{positions, codeOfLevel}
+use Rattle.levels.specs.InnerBook.{codeOf}
 use Rattle.levels.specs.Levels.{zeros, levelRun, standing, levelsFrom, levels, isZero, levelBits, LevelsCoded, LevelsRange}
 use Rattle.levels.specs.declared.svq3_coeff.ResidualBook.{ResidualBook}
 use Rattle.levels.specs.declared.svq3_coeff.LevelRun.{LevelRun}

@@ -2,12 +2,11 @@
 -- Assumes nothing.
 use mathlib.Core.Bool.{cond, _&&_}
 use mathlib.Core.List.{List, [], _∷_}
-use Prim.Native.Nat.{ℕ, suc, _+_, _-_, _*_, _/_, _%_, _<_}
+use Prim.Native.Nat.{ℕ, suc, _+_, _-_, _*_, _/_, _%_}
 use lib.Dec.{eqb, ltb}
-use lib.IntN.{ℤ, pos, negsuc, negℤ, natAbs}
+use lib.IntN.{ℤ, pos, negsuc, negℤ}
 use lib.ListN.{getD}
 use Rattle.bits.specs.Bits.{odd}
-use Rattle.bits.specs.Code.{CodeRange}
 use Rattle.levels.specs.declared.svq3_coeff.ResidualBook.{ResidualBook}
 use Rattle.levels.specs.declared.svq3_coeff.ResidualBook.the-variants.{NormalScan, ChromaDc}
 use Rattle.levels.specs.declared.svq3_coeff.LevelRun.{LevelRun}
@@ -88,12 +87,3 @@ oddCode book m r = cond (ltb m (getD (least book) r 0)) (2 * entryOf m r (magnit
 unfoldable pub codeOfLevel : ResidualBook → ℤ → ℕ → ℕ
 codeOfLevel book (pos m) r = oddCode book m r
 codeOfLevel book (negsuc m) r = oddCode book (suc m) r + 1
-
-unfoldable pub codeOf : ResidualBook → LevelRun → ℕ
-codeOf book End = 0
-codeOf book (Pair l r) = codeOfLevel book l r
-
--- what a code can say: a level other than 0, a run of the book, and a code of at most 31 data bits
-abbrev pub InBook : ResidualBook → LevelRun → Type 0
-InBook book End = Unit {0}
-InBook book (Pair l r) = (0 < natAbs l) × (r < positions book) × CodeRange (codeOfLevel book l r)

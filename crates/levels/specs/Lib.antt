@@ -1,7 +1,10 @@
-pub mod Entries
 pub mod Lists
 pub mod Pattern
 pub mod Book
 pub mod Scan
-pub mod Short
 pub mod Levels
+pub mod InnerBook
+pub mod InnerEntries
+pub mod InnerLevels
+pub mod InnerPattern
+pub mod InnerShort

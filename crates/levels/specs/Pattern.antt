@@ -2,7 +2,7 @@
 -- Assumes nothing.
 use mathlib.Core.Bool.{Bool, cond}
 use mathlib.Core.List.{List, [], _∷_}
-use Prim.Native.Nat.{ℕ, _+_, _/_, _%_, _^_, _<_}
+use Prim.Native.Nat.{ℕ, _/_, _%_, _^_, _<_}
 use lib.Dec.{ltb}
 use lib.ListN.{getD}
 use Rattle.refusal.specs.Got.{Got, got, refused, mapGot}
@@ -11,20 +11,12 @@ use Rattle.refusal.specs.declared.Refusal.the-variants.{InvalidFrameCode}
 use Rattle.bits.specs.Bits.{odd}
 use Rattle.bits.specs.Code.{code, codeBits}
 use Rattle.levels.specs.Lists.{placeOf}
-use Rattle.levels.specs.declared.svq3_cbp.CbpEntry.{CbpEntry}
-use Rattle.levels.specs.declared.svq3_cbp.CbpEntry.the-variants.{Entry, Missing}
-use Rattle.levels.specs.declared.svq3_cbp.CbpAnswer.{CbpAnswer}
-use Rattle.levels.specs.declared.svq3_cbp.CbpAnswer.the-variants.{Pattern, Refused}
 
 -- the pattern of each code
 unfoldable pub patterns : List ℕ
 patterns =
     0 ∷ 16 ∷ 1 ∷ 2 ∷ 4 ∷ 8 ∷ 32 ∷ 3 ∷ 5 ∷ 10 ∷ 12 ∷ 15 ∷ 47 ∷ 7 ∷ 11 ∷ 13 ∷ 14 ∷ 6 ∷ 9 ∷ 31 ∷ 35 ∷ 37 ∷ 42 ∷ 44 ∷
     33 ∷ 34 ∷ 36 ∷ 40 ∷ 39 ∷ 43 ∷ 45 ∷ 46 ∷ 17 ∷ 18 ∷ 20 ∷ 24 ∷ 19 ∷ 21 ∷ 26 ∷ 28 ∷ 23 ∷ 27 ∷ 29 ∷ 30 ∷ 22 ∷ 25 ∷ 38 ∷ 41 ∷ []
-
--- the table at any code
-unfoldable pub patternEntry : ℕ → CbpEntry
-patternEntry k = cond (ltb k 48) (Entry (getD patterns k 0)) Missing
 
 -- what passes the test is kept, anything else refused
 abbrev pub keep : {X : Type 0} → (X → Bool) → (X → Refusal) → Got X → Got X
@@ -44,10 +36,6 @@ patternBits v = codeBits (patternCode v)
 
 abbrev pub PatternRange : ℕ → Type 0
 PatternRange v = v < 48
-
-abbrev pub patternAnswer : ℕ → Got ℕ → CbpAnswer
-patternAnswer at (got v n) = Pattern v (at + n)
-patternAnswer at (refused r) = Refused r
 
 -- a bit for each luma quadrant
 abbrev pub lumaOf : ℕ → ℕ

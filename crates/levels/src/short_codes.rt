@@ -3,7 +3,7 @@
 ghost use mathlib.Core.Path.{_≡_};
 ghost use Prim.Native.Nat.{_<_};
 ghost use lib.ListN.{getD};
-ghost use Rattle.levels.specs.Entries.{normalScan, chromaDc};
+ghost use Rattle.levels.specs.InnerEntries.{normalScan, chromaDc};
 
 pub fn normal_scan(bits: u64) -> u32
     requires { ⌜ bits < 64 ⌝ }

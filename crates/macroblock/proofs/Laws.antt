@@ -13,19 +13,20 @@ use Rattle.ints.proofs.Fits.{if-no}
 use Rattle.refusal.specs.Got.{Got, got, refused}
 use Rattle.refusal.specs.declared.Refusal.{Refusal}
 use Rattle.bits.specs.Bits.{bitList}
-use Rattle.picture.specs.Picture.{Within}
+use Rattle.picture.specs.InnerPicture.{Within}
 use Rattle.state.specs.Questions.{askCall}
 use Rattle.state.specs.declared.Call.{Call}
 use Rattle.state.specs.declared.Asked.{Asked}
 use Rattle.state.specs.declared.Asked.the-variants.{Yes, No}
 use Rattle.state.proofs.Yes.{Called, call-yes}
-use Rattle.record.specs.Record.{Record, recordOf, skipRecord}
+use Rattle.record.specs.Record.{Record, skipRecord}
+use Rattle.record.specs.InnerRecord.{recordOf}
 use Rattle.record.specs.Range.{RecordRange, HeadRange}
 use Rattle.record.specs.Write.{recordBytes}
 use Rattle.record.specs.declared.Head.{Head}
 use Rattle.transcript.specs.InnerWritten.{Written}
 use Rattle.reading.specs.Read.{readCoded, readMacroblock}
-use Rattle.reading.specs.Answers.{Reading}
+use Rattle.reading.specs.InnerAnswers.{Reading}
 use Rattle.reading.specs.declared.svq3_frame.ReadAnswer.{ReadAnswer}
 use Rattle.reading.specs.declared.svq3_frame.ReadAnswer.the-variants as read
 use Rattle.reading.proofs.Answers.{ReadBy, was-read, read-refused, read-coded, read-in-range, read-head-range, read-no-skip}

@@ -7,8 +7,10 @@ use native.Mathlib.Omega.{arith}
 use lib.IntN.{ℤ}
 use Rattle.refusal.specs.Got.{Got, got, refused}
 use Rattle.refusal.specs.declared.Refusal.{Refusal}
-use Rattle.number.specs.Number.{readNumber, numberAnswer}
-use Rattle.number.specs.SignedNumber.{received, readSigned, signedNumberAnswer}
+use Rattle.number.specs.Number.{readNumber}
+use Rattle.number.specs.InnerNumber.{numberAnswer}
+use Rattle.number.specs.SignedNumber.{received, readSigned}
+use Rattle.number.specs.InnerSignedNumber.{signedNumberAnswer}
 use Rattle.number.specs.declared.NumberAnswer.the-variants.{Number, Refused}
 use Rattle.number.specs.declared.SignedNumberAnswer.the-variants.{SignedNumber}
 use Rattle.number.specs.declared.SignedNumberAnswer.the-variants as signed

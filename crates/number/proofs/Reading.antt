@@ -14,7 +14,8 @@ use lib.ListN.{length, getD, drop, drop-of-length-le}
 use lib.Seq.{drop-cons}
 use Rattle.refusal.specs.Got.{Got, got, refused}
 use Rattle.refusal.specs.declared.Refusal.the-variants.{NumberForm}
-use Rattle.number.specs.Number.{lowThen, readNumber, numberAnswer}
+use Rattle.number.specs.Number.{lowThen, readNumber}
+use Rattle.number.specs.InnerNumber.{numberAnswer}
 use Rattle.number.specs.declared.NumberAnswer.{NumberAnswer}
 use Rattle.number.specs.declared.NumberAnswer.the-variants.{Number, Refused}
 use Rattle.number.proofs.Numbers.{number-format, refused-form, lt-or-le, zero-or-more, low-then, low-zero, low-large, low-refused, read-end, read-last, read-more}

@@ -1,2 +1,4 @@
 pub mod Number
 pub mod SignedNumber
+pub mod InnerNumber
+pub mod InnerSignedNumber

@@ -6,8 +6,6 @@ use Prim.Native.Nat.{ℕ, zero, suc, _+_, _-_, _*_, _/_, _%_, _^_, _<_}
 use lib.Dec.{ltb}
 use Rattle.refusal.specs.Got.{Got, got, refused}
 use Rattle.refusal.specs.declared.Refusal.the-variants.{NumberForm}
-use Rattle.number.specs.declared.NumberAnswer.{NumberAnswer}
-use Rattle.number.specs.declared.NumberAnswer.the-variants.{Number, Refused}
 
 -- the bytes of v, of which at most `room` follow the first
 unfoldable pub groups : ℕ → ℕ → List ℕ
@@ -30,8 +28,3 @@ lowThen low (refused r) = refused r
 unfoldable pub readNumber : List ℕ → Got ℕ
 readNumber [] = refused NumberForm
 readNumber (b ∷ s) = cond (ltb b 128) (got b 1) (cond (ltb b 256) (lowThen (b - 128) (readNumber s)) (refused NumberForm))
-
--- the answer of a reader that started at a place
-abbrev pub numberAnswer : ℕ → Got ℕ → NumberAnswer
-numberAnswer at (got v n) = Number v (at + n)
-numberAnswer at (refused r) = Refused r

@@ -6,10 +6,8 @@ use Prim.Native.Nat.{ℕ, _+_, _*_, _/_, _%_, _^_, _<_}
 use lib.Dec.{eqb}
 use lib.IntN.{ℤ, pos, negsuc}
 use lib.Signed.{mag}
-use Rattle.refusal.specs.Got.{Got, got, refused, mapGot}
+use Rattle.refusal.specs.Got.{Got, mapGot}
 use Rattle.number.specs.Number.{number, readNumber}
-use Rattle.number.specs.declared.SignedNumberAnswer.{SignedNumberAnswer}
-use Rattle.number.specs.declared.SignedNumberAnswer.the-variants.{SignedNumber, Refused}
 
 -- `negsuc n` is -(n + 1)
 unfoldable pub sent : ℤ → ℕ
@@ -29,7 +27,3 @@ signedNumber z = number (sent z)
 -- the signed number at the head of s
 unfoldable pub readSigned : List ℕ → Got ℤ
 readSigned s = mapGot received (readNumber s)
-
-abbrev pub signedNumberAnswer : ℕ → Got ℤ → SignedNumberAnswer
-signedNumberAnswer at (got z n) = SignedNumber z (at + n)
-signedNumberAnswer at (refused r) = Refused r

@@ -3,8 +3,10 @@ ghost use mathlib.Core.Path.{_≡_};
 ghost use Prim.Native.Nat.{_+_, _≤_};
 ghost use lib.ListN.{length, drop};
 ghost use lib.Seq.{sets};
-ghost use Rattle.number.specs.Number.{number, readNumber, numberAnswer};
-ghost use Rattle.number.specs.SignedNumber.{sent, received, signedNumber, readSigned, signedNumberAnswer};
+ghost use Rattle.number.specs.Number.{number, readNumber};
+ghost use Rattle.number.specs.InnerNumber.{numberAnswer};
+ghost use Rattle.number.specs.SignedNumber.{sent, received, signedNumber, readSigned};
+ghost use Rattle.number.specs.InnerSignedNumber.{signedNumberAnswer};
 use refusal::Refusal;
 
 pub enum NumberAnswer {

@@ -14,8 +14,9 @@ use lib.ListN.{length, getD, set, length-set}
 use lib.Seq.{getD-set-same, getD-set-other, ext-getD}
 use borrow.Author.Tests.{ltb-true, ltb-false, leb-true, leb-false, lt-ltb, le-leb}
 use Rattle.picture.specs.Painted.{eachAt, within, inside, painted, Inside}
-use Rattle.picture.specs.Picture.{seen, copied, Within}
-use Rattle.picture.specs.Rows.{row, rows}
+use Rattle.picture.specs.Picture.{seen, copied}
+use Rattle.picture.specs.InnerPicture.{Within}
+use Rattle.picture.specs.InnerRows.{row, rows}
 
 -- one more row of k fits, where n rows are fewer than m
 pub more : {n m : ℕ} (k : ℕ) → n < m → n * k + k ≤ m * k

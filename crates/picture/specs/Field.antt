@@ -11,6 +11,3 @@ pub record Field : Type 0 where
   pub rows : ℕ
   pub mv : List ℤ
   pub marks : List ℕ
-
-abbrev pub fieldOf : ℕ → ℕ → List ℤ → List ℕ → Field
-fieldOf cols rows mv marks = record { cols = cols; rows = rows; mv = mv; marks = marks }

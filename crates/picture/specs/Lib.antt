@@ -1,5 +1,7 @@
 pub mod Painted
 pub mod Picture
-pub mod Rows
-pub mod Block
 pub mod Field
+pub mod InnerBlock
+pub mod InnerField
+pub mod InnerPicture
+pub mod InnerRows

@@ -1,7 +1,6 @@
 -- A picture's planes: their lengths, and what they hold after a block was copied or filled.
 -- Assumes nothing.
-use mathlib.Core.Path.{_≡_}
-use Prim.Native.Nat.{ℕ, _+_, _*_, _<_, _≤_}
+use Prim.Native.Nat.{ℕ, _+_, _*_}
 use mathlib.Core.List.{List}
 use lib.ListN.{getD}
 use Rattle.picture.specs.Painted.{painted}
@@ -15,19 +14,6 @@ chromaLength cols rows = 64 * (cols * rows)
 
 abbrev pub cellCount : ℕ → ℕ → ℕ
 cellCount cols rows = 16 * (cols * rows)
-
--- the macroblock lies in a grid of at most 4,096 macroblocks a side
-pub record Within (cols rows column row : ℕ) : Type 0 where
-  pub across : column < cols
-  pub down : row < rows
-  pub wide : cols ≤ 4096
-  pub high : rows ≤ 4096
-
--- three planes have the lengths of the grid
-pub record Sized (cols rows luma cb cr : ℕ) : Type 0 where
-  pub luma-right : luma ≡ lumaLength cols rows
-  pub cb-right : cb ≡ chromaLength cols rows
-  pub cr-right : cr ≡ chromaLength cols rows
 
 -- the sample of a plane at column x + c of row y + r
 unfoldable pub seen : List ℕ → ℕ → ℕ → ℕ → ℕ → ℕ → ℕ

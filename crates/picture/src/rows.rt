@@ -2,9 +2,9 @@
 ghost use mathlib.Core.Path.{_≡_};
 ghost use Prim.Native.Nat.{_+_, _*_, _≤_};
 ghost use lib.ListN.{length, replicate};
-ghost use Rattle.picture.specs.Block.{BlockIn};
+ghost use Rattle.picture.specs.InnerBlock.{BlockIn};
 ghost use Rattle.picture.specs.Picture.{copied};
-ghost use Rattle.picture.specs.Rows.{row, run};
+ghost use Rattle.picture.specs.InnerRows.{row, run};
 use crate::Block;
 
 // n samples of `block` from `from` on, as the first of sixteen.

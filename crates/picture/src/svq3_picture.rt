@@ -2,7 +2,8 @@
 ghost use mathlib.Core.Path.{_≡_};
 ghost use Prim.Native.Nat.{_*_};
 ghost use lib.ListN.{length};
-ghost use Rattle.picture.specs.Picture.{copied, Within, Sized};
+ghost use Rattle.picture.specs.Picture.{copied};
+ghost use Rattle.picture.specs.InnerPicture.{Within, Sized};
 use crate::Block;
 use crate::rows::copy_block;
 

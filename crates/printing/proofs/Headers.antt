@@ -13,15 +13,18 @@ use Rattle.ints.specs.Z.{if_then_else_}
 use Rattle.refusal.specs.Got.{Got, got, refused, after, andThen, mapGot}
 use Rattle.refusal.specs.declared.Refusal.{Refusal}
 use Rattle.refusal.specs.declared.Refusal.the-variants.{FieldRange}
-use Rattle.number.specs.Number.{readNumber, numberAnswer}
+use Rattle.number.specs.Number.{readNumber}
+use Rattle.number.specs.InnerNumber.{numberAnswer}
 use Rattle.number.specs.declared.NumberAnswer.the-variants.{Number, Refused}
 use Rattle.number.proofs.Answers.{number-answered, number-refused}
 use Rattle.state.specs.declared.Call.{Call}
-use Rattle.run.specs.Calls.{callIn, callAnswer}
+use Rattle.run.specs.Calls.{callIn}
+use Rattle.run.specs.InnerCalls.{callAnswer}
 use Rattle.run.specs.declared.calls.CallAnswer.the-variants as one
 use Rattle.run.proofs.Listing.{call-answered, call-refused}
 use Rattle.record.proofs.Turns.{when-true, when-false}
-use Rattle.printing.specs.Header.{ranged, headerIn, callsFrom, headerAnswer, listEnd}
+use Rattle.printing.specs.Header.{ranged, headerIn, callsFrom}
+use Rattle.printing.specs.InnerHeader.{headerAnswer, listEnd}
 use Rattle.printing.specs.declared.header.Header.{Header}
 use Rattle.printing.specs.declared.header.HeaderAnswer.{HeaderAnswer}
 use Rattle.printing.specs.declared.header.HeaderAnswer.the-variants as header

@@ -12,7 +12,8 @@ use Rattle.state.specs.declared.Call.{Call}
 use Rattle.run.specs.Calls.{calls}
 use Rattle.run.specs.Run.{ranOf, ranList}
 use Rattle.printing.specs.Text.{refusedLine}
-use Rattle.printing.specs.Header.{headerIn, callsFrom, HeaderRange, headerAnswer, listEnd}
+use Rattle.printing.specs.Header.{headerIn, callsFrom, HeaderRange}
+use Rattle.printing.specs.InnerHeader.{headerAnswer, listEnd}
 use Rattle.printing.specs.Print.{start, room, printedRun, printedCalls, printedHeader, printed}
 use Rattle.printing.specs.declared.header.Header.{Header}
 use Rattle.printing.specs.declared.header.HeaderAnswer.the-variants as header

@@ -16,10 +16,10 @@ use Rattle.record.proofs.Records.{record-format}
 use Rattle.transcript.specs.InnerWritten.{Written}
 use Rattle.transcript.proofs.Writing.{Still, still-all, still-more, still-fits, still-none}
 use Rattle.transcript.specs.Records.{records}
-use Rattle.transcript.specs.Check.{recordAnswer}
+use Rattle.transcript.specs.InnerCheck.{recordAnswer}
 use Rattle.transcript.specs.declared.check.RecordAnswer.the-variants as one
 use Rattle.transcript.proofs.Checks.{records-none, records-first, records-next, record-read, not-record}
-use Rattle.replay.specs.Recorded.{Recorded}
+use Rattle.replay.specs.InnerRecorded.{Recorded}
 use Rattle.printing.specs.Text.{hexBytes, hexLine, line, bitsLine}
 use Rattle.printing.specs.Print.{recordLines, linesOf, stopLines}
 use Rattle.printing.proofs.Texts.{line-length, bits-length, refused-length}

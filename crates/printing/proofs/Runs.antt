@@ -17,7 +17,7 @@ use Rattle.transcript.specs.Records.{records}
 use Rattle.state.specs.State.{State}
 use Rattle.macroblock.specs.Decode.{applied, Outcome, outcomeOf, decoded}
 use Rattle.run.specs.Run.{Ran, ended, withCall, onward, ranFrom, ran, ranOf, ranList, transcriptOf}
-use Rattle.replay.specs.Recorded.{Recorded}
+use Rattle.replay.specs.InnerRecorded.{Recorded}
 use Rattle.run.specs.declared.Stop.the-variants.{Done, By}
 use Rattle.run.specs.Left.{listLeft, leaves}
 use Rattle.run.specs.declared.Report.{Report}

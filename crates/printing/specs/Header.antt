@@ -2,7 +2,7 @@
 -- Assumes nothing.
 use mathlib.Core.Bool.{_&&_}
 use mathlib.Core.List.{List, [], _∷_}
-use Prim.Native.Nat.{ℕ, zero, suc, _+_, _≤_, _/_, _%_}
+use Prim.Native.Nat.{ℕ, zero, suc, _≤_, _/_, _%_}
 use lib.Dec.{leb, eqb}
 use Rattle.ints.specs.Z.{if_then_else_}
 use Rattle.refusal.specs.Got.{Got, got, refused, andThen, mapGot}
@@ -12,9 +12,7 @@ use Rattle.state.specs.declared.Call.{Call}
 use Rattle.run.specs.Calls.{callIn}
 use Rattle.state.specs.declared.Frame.{Frame}
 use Rattle.printing.specs.declared.header.Header.{Header}
-use Rattle.printing.specs.declared.header.HeaderAnswer.{HeaderAnswer}
 use Rattle.printing.specs.declared.header.HeaderAnswer.the-variants as header
-use Rattle.printing.specs.declared.header.ListEnd.{ListEnd}
 use Rattle.printing.specs.declared.header.ListEnd.the-variants as list
 
 -- a number from `least` to `most`
@@ -40,15 +38,6 @@ pub record HeaderRange (h : Header) : Type 0 where
   pub cols : h .cols ≤ 4
   pub rows : h .rows ≤ 4
   pub count : h .count ≤ 16
-
--- the answers of readers that started at a place
-abbrev pub headerAnswer : ℕ → Got Header → HeaderAnswer
-headerAnswer at (got h n) = header.Header h (at + n)
-headerAnswer at (refused why) = header.Refused why
-
-abbrev pub listEnd : ℕ → Got (List Call) → ListEnd
-listEnd at (got cs n) = list.At (at + n)
-listEnd at (refused why) = list.Refused why
 
 -- flags are 1 half + 2 third
 abbrev pub frameOf : Header → Frame

@@ -1,3 +1,4 @@
 pub mod Header
 pub mod Text
 pub mod Print
+pub mod InnerHeader

@@ -1,8 +1,9 @@
 // The printer's header and its list of calls, read from the input.
 ghost use mathlib.Core.Path.{_≡_};
 ghost use lib.ListN.{drop};
-ghost use Rattle.number.specs.Number.{numberAnswer};
-ghost use Rattle.printing.specs.Header.{ranged, headerIn, callsFrom, headerAnswer, listEnd, frameOf};
+ghost use Rattle.number.specs.InnerNumber.{numberAnswer};
+ghost use Rattle.printing.specs.Header.{ranged, headerIn, callsFrom, frameOf};
+ghost use Rattle.printing.specs.InnerHeader.{headerAnswer, listEnd};
 use number::NumberAnswer;
 use number::read_number;
 use refusal::Refusal;

@@ -7,7 +7,7 @@ ghost use Rattle.transcript.specs.Records.{records};
 ghost use Rattle.transcript.specs.InnerWritten.{Written};
 ghost use Rattle.run.specs.Run.{ranList};
 ghost use Rattle.run.specs.Left.{listLeft};
-ghost use Rattle.replay.specs.Recorded.{Recorded};
+ghost use Rattle.replay.specs.InnerRecorded.{Recorded};
 ghost use Rattle.printing.specs.Header.{HeaderRange};
 ghost use Rattle.printing.specs.Text.{bitsLine};
 ghost use Rattle.printing.specs.Print.{start, room, linesOf, stopLines, printedRun, printed};

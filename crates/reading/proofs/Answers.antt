@@ -10,15 +10,16 @@ use lib.IntN.{ℤ}
 use Rattle.ints.proofs.Fits.{if-no}
 use Rattle.refusal.specs.Got.{Got, got, refused}
 use Rattle.refusal.specs.declared.Refusal.{Refusal}
-use Rattle.picture.specs.Picture.{Within}
+use Rattle.picture.specs.InnerPicture.{Within}
 use Rattle.state.specs.declared.Call.{Call}
-use Rattle.record.specs.Record.{Record, recordOf}
+use Rattle.record.specs.Record.{Record}
+use Rattle.record.specs.InnerRecord.{recordOf}
 use Rattle.record.specs.Range.{RecordRange, HeadRange}
 use Rattle.record.specs.declared.Head.{Head}
 use Rattle.record.proofs.Lengths.{head-range}
 use Rattle.state.specs.State.{Context}
 use Rattle.reading.specs.Read.{readCoded, readMacroblock}
-use Rattle.reading.specs.Answers.{Reading}
+use Rattle.reading.specs.InnerAnswers.{Reading}
 use Rattle.reading.specs.declared.svq3_frame.ReadAnswer.the-variants.{Read, Refused}
 use Rattle.reading.proofs.Took.{read-range, read-call}
 

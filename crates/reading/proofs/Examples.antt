@@ -20,7 +20,7 @@ use Rattle.record.specs.Record.{noVectors, noLevels}
 use Rattle.record.specs.Items.{itemCoded, readLists, readItems}
 use Rattle.record.proofs.Examples.{printed}
 use Rattle.reading.specs.Read.{predictorAt, moved, readVectors, quantiserIn, readQuantiser, recordOf, atFirst, readResidual, readCoded, readMacroblock}
-use Rattle.reading.specs.Answers.{contextOf}
+use Rattle.reading.specs.InnerAnswers.{contextOf}
 
 -- the byte 98: 1 vertical 0, 001 horizontal +1, 1 pattern 0; one macroblock, full pel, quantiser 5
 pub read-printed :

@@ -11,11 +11,11 @@ use Rattle.picture.specs.Field.{Field}
 use Rattle.vectors.specs.Predict.{predictor}
 use Rattle.vectors.specs.Units.{storedPart, clippedPart}
 use Rattle.vectors.specs.Stored.{storedField}
-use Rattle.vectors.specs.Window.{Seen, Part, Follows, cornerPairs, cornerMarks}
+use Rattle.vectors.specs.InnerWindow.{Seen, Part, Follows, cornerPairs, cornerMarks}
 use Rattle.vectors.specs.declared.svq3_frame.Vector.{Vector}
 use Rattle.vectors.proofs.Following.{part-of, follows-held, follows-stored}
 use Rattle.reading.specs.Read.{Moving, moved, predictorAt, storedAt}
-use Rattle.reading.specs.Answers.{InGrid, Holds}
+use Rattle.reading.specs.InnerAnswers.{InGrid, Holds}
 use Rattle.reading.specs.declared.svq3_frame.Motion.{Motion}
 
 -- partition i, whose offsets and size in samples are ox, oy, w, h

@@ -21,13 +21,14 @@ use Rattle.refusal.specs.declared.Refusal.{Refusal}
 use Rattle.refusal.specs.declared.Refusal.the-variants.{InvalidQuantiser}
 use Rattle.refusal.proofs.Formats.{got-value, got-count, never}
 use Rattle.refusal.proofs.Local.{apart, Took, took-none, took-format, took-then}
-use Rattle.bits.specs.Signed.{signedCode, signedBits, signedAnswer}
+use Rattle.bits.specs.Signed.{signedCode, signedBits}
+use Rattle.bits.specs.InnerSigned.{signedAnswer}
 use Rattle.bits.specs.declared.svq3_mv.SignedAnswer.the-variants as signed
 use Rattle.bits.proofs.Answers.{Answered, signed-answered, signed-refused}
 use Rattle.bits.proofs.SignedCode.{signed-format}
 use Rattle.reading.specs.Read.{quantiserIn, readQuantiser}
 use Rattle.reading.specs.Bits.{quantiserBits}
-use Rattle.reading.specs.Answers.{quantiserAnswer}
+use Rattle.reading.specs.InnerAnswers.{quantiserAnswer}
 use Rattle.reading.specs.declared.svq3_frame.QuantiserAnswer.the-variants.{Quantiser, Refused}
 
 -- a quantiser that was taken is the exact value, 0 to 31, and takes no bits of its own

@@ -12,12 +12,13 @@ use lib.Seq.{drop-drop}
 use Rattle.refusal.specs.Got.{Got, got, refused, after, andThen}
 use Rattle.refusal.specs.declared.Refusal.{Refusal}
 use Rattle.refusal.proofs.Formats.{got-value, never}
-use Rattle.bits.specs.Signed.{signedCode, signedAnswer}
+use Rattle.bits.specs.Signed.{signedCode}
+use Rattle.bits.specs.InnerSigned.{signedAnswer}
 use Rattle.bits.specs.declared.svq3_mv.SignedAnswer.the-variants as signed
 use Rattle.bits.proofs.Answers.{Answered, signed-answered, signed-refused}
 use Rattle.levels.proofs.Gots.{after-zero, after-after}
 use Rattle.reading.specs.Read.{Moving, moved, readVectors}
-use Rattle.reading.specs.Answers.{vectorsAnswer, Holds, Stepping, Vectoring}
+use Rattle.reading.specs.InnerAnswers.{vectorsAnswer, Holds, Stepping, Vectoring}
 use Rattle.reading.specs.declared.svq3_frame.Motion.{Motion}
 use Rattle.reading.specs.declared.svq3_frame.VectorsAnswer.{VectorsAnswer}
 use Rattle.reading.specs.declared.svq3_frame.VectorsAnswer.the-variants.{Vectors, Refused}

@@ -1,3 +1,3 @@
 pub mod Read
 pub mod Bits
-pub mod Answers
+pub mod InnerAnswers

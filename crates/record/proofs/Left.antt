@@ -14,14 +14,15 @@ use Rattle.refusal.specs.declared.Refusal.{Refusal}
 use Rattle.refusal.proofs.Formats.{got-value, never}
 use Rattle.levels.specs.Book.{positions}
 use Rattle.levels.specs.Pattern.{classOf}
-use Rattle.levels.specs.Levels.{zeros, block, listAnswer, leftIn, Decoded}
+use Rattle.levels.specs.Levels.{zeros, block}
+use Rattle.levels.specs.InnerLevels.{listAnswer, leftIn, Decoded}
 use Rattle.levels.specs.declared.svq3_coeff.ResidualBook.{ResidualBook}
 use Rattle.levels.specs.declared.svq3_coeff.ListAnswer.{ListAnswer}
 use Rattle.levels.specs.declared.svq3_coeff.ListAnswer.the-variants.{End, Refused}
 use Rattle.record.specs.Items.{itemCoded, itemCount, itemPlace, readLists, readItem, readItems}
-use Rattle.record.specs.Answers.{Left}
-use Rattle.record.specs.Sides.{readSide}
-use Rattle.record.specs.Left.{orStop, leftItems, leftSide, Leaves}
+use Rattle.record.specs.InnerAnswers.{Left}
+use Rattle.record.specs.InnerSides.{readSide}
+use Rattle.record.specs.InnerLeft.{orStop, leftItems, leftSide, Leaves}
 use Rattle.record.proofs.Answers.{ended, refused-by}
 use Rattle.record.proofs.Turns.{when-true, when-false}
 use Rattle.record.proofs.Walks.{stored, Rest, rest-all, rest-is, rest-on, rest-stops, rest-answer, then-mapped, one-coded, one-passed}

@@ -21,7 +21,7 @@ use Rattle.levels.specs.declared.svq3_coeff.ResidualBook.the-variants.{NormalSc
 use Rattle.levels.proofs.Gots.{after-zero, after-after}
 use Rattle.record.specs.Items.{itemCoded, itemBook, itemStart, itemCount, itemPlace, itemLevels, readLists, writeLists, readItem, readItems}
 use Rattle.record.specs.Write.{signedNumbers, itemBytes, itemsBytes}
-use Rattle.record.specs.Sides.{readSide, sideBytes}
+use Rattle.record.specs.InnerSides.{readSide, sideBytes}
 use Rattle.record.proofs.Turns.{when-true, when-false}
 use Rattle.record.proofs.Sets.{drop-of-take}
 use Rattle.record.proofs.ListKinds.{is-luma, is-dc, is-ac, luma-group, dc-group, ac-group}

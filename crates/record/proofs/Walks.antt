@@ -12,12 +12,13 @@ use lib.Seq.{sets, drop-drop}
 use Rattle.refusal.specs.Got.{Got, got, refused, after, andThen, mapGot}
 use Rattle.refusal.specs.declared.Refusal.{Refusal}
 use Rattle.refusal.proofs.Formats.{got-value, never}
-use Rattle.levels.specs.Levels.{listAnswer, Decoded}
+use Rattle.levels.specs.InnerLevels.{listAnswer, Decoded}
 use Rattle.levels.specs.declared.svq3_coeff.ListAnswer.{ListAnswer}
 use Rattle.levels.specs.declared.svq3_coeff.ListAnswer.the-variants.{End, Refused}
 use Rattle.levels.proofs.Gots.{after-zero, after-after}
-use Rattle.record.specs.Items.{itemCoded, Group, itemPlace, readLists}
-use Rattle.record.specs.Answers.{Left}
+use Rattle.record.specs.Items.{itemCoded, itemPlace, readLists}
+use Rattle.record.specs.InnerItems.{Group}
+use Rattle.record.specs.InnerAnswers.{Left}
 use Rattle.record.proofs.Answers.{ended, refused-by, left-end, left-refused}
 use Rattle.record.proofs.Turns.{when-true, when-false}
 

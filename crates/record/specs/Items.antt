@@ -1,9 +1,8 @@
 -- The 26 lists of levels, in the order in which they are read and written: 16 luma blocks, four for each quadrant in bit order; Cb DC, Cr DC; four Cb blocks, four Cr blocks.
 -- Assumes nothing.
-use mathlib.Core.Path.{_≡_}
 use mathlib.Core.Bool.{Bool}
 use mathlib.Core.List.{List, [], _++_}
-use Prim.Native.Nat.{ℕ, zero, suc, _+_, _-_, _*_, _/_, _≤_, _<_}
+use Prim.Native.Nat.{ℕ, zero, suc, _+_, _-_, _*_, _/_}
 use lib.Dec.{eqb, ltb}
 use lib.IntN.{ℤ}
 use lib.ListN.{take, drop}
@@ -19,12 +18,6 @@ use Rattle.levels.specs.declared.svq3_coeff.ResidualBook.the-variants.{NormalSc
 -- a luma list by its quadrant, chroma DC from class 1 on, chroma AC at class 2
 unfoldable pub itemCoded : ℕ → ℕ → Bool
 itemCoded pattern i = if ltb i 16 then quadrantCoded pattern (i / 4) else if ltb i 18 then ltb 0 (classOf pattern) else eqb (classOf pattern) 2
-
--- each list from i on and before e is coded where list i is, and only there
-pub record Group (i e : ℕ) : Type 0 where
-  pub on : i < e
-  pub most : e ≤ 26
-  pub same : (pattern j : ℕ) → i ≤ j → j < e → itemCoded pattern j ≡ itemCoded pattern i
 
 -- the book of its codes
 unfoldable pub itemBook : ℕ → ResidualBook

@@ -1,8 +1,10 @@
 pub mod Record
 pub mod Items
 pub mod Write
-pub mod Sides
 pub mod Parse
 pub mod Range
-pub mod Answers
-pub mod Left
+pub mod InnerAnswers
+pub mod InnerItems
+pub mod InnerLeft
+pub mod InnerRecord
+pub mod InnerSides

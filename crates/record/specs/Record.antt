@@ -12,10 +12,6 @@ pub record Record : Type 0 where
   pub vectors : List ℤ
   pub levels : List ℤ
 
--- numbers, vectors and levels that stand beside each other
-abbrev pub recordOf : Head → List ℤ → List ℤ → Record
-recordOf h vs ls = record { head = h; vectors = vs; levels = ls }
-
 -- all zeros
 unfoldable pub noVectors : List ℤ
 noVectors = replicate 32 (pos 0)

@@ -12,9 +12,9 @@ use Rattle.refusal.proofs.Lists.{Next}
 use Rattle.transcript.specs.Records.{records}
 use Rattle.transcript.proofs.Checks.{records-none, records-next}
 use Rattle.state.specs.State.{State}
-use Rattle.replay.specs.Stepped.{Stepped}
+use Rattle.replay.specs.InnerStepped.{Stepped}
 use Rattle.replay.specs.Replay.{appliedAll}
-use Rattle.replay.specs.Recorded.{Recorded, appliedOf, allLeft}
+use Rattle.replay.specs.InnerRecorded.{Recorded, appliedOf, allLeft}
 
 -- the transcript is read up to `at`
 pub record Replaying (whole s : State) (bytes : List ℕ) (at : ℕ) : Type 0 where

@@ -8,7 +8,8 @@ use native.Mathlib.Omega.{arith}
 use lib.ListN.{length}
 use Rattle.refusal.specs.Got.{Got, got, refused}
 use Rattle.refusal.specs.declared.Refusal.{Refusal}
-use Rattle.picture.specs.Picture.{Sized, cellCount}
+use Rattle.picture.specs.InnerPicture.{Sized}
+use Rattle.picture.specs.Picture.{cellCount}
 use Rattle.state.specs.Questions.{gridRight, askReplay, askQuantiser}
 use Rattle.state.specs.declared.Asked.{Asked}
 use Rattle.state.specs.declared.Asked.the-variants.{Yes, No}
@@ -20,7 +21,7 @@ use Rattle.transcript.specs.Check.{checkAnswer}
 use Rattle.transcript.specs.declared.check.CheckAnswer.the-variants as check
 use Rattle.state.specs.State.{State, lengthsOf}
 use Rattle.replay.specs.Replay.{appliedAll, Replay, replayOf, unlessAsked, replayed}
-use Rattle.replay.specs.Recorded.{Recorded, appliedOf, allLeft}
+use Rattle.replay.specs.InnerRecorded.{Recorded, appliedOf, allLeft}
 use Rattle.replay.specs.declared.ReplayAnswer.the-variants.{Replayed, Refused}
 
 apart : {A : Type 0} {why : Refusal} {n : ℕ} → check.Records n ≡ check.Refused why → A

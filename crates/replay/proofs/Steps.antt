@@ -10,7 +10,8 @@ use Rattle.ints.specs.Z.{if_then_else_}
 use Rattle.refusal.specs.Got.{Got, got, refused}
 use Rattle.refusal.proofs.Formats.{got-value, got-count, never}
 use Rattle.refusal.specs.declared.Refusal.{Refusal}
-use Rattle.record.specs.Record.{Record, recordOf, skipRecord}
+use Rattle.record.specs.Record.{Record, skipRecord}
+use Rattle.record.specs.InnerRecord.{recordOf}
 use Rattle.record.specs.Parse.{parseMotion, parseRecord}
 use Rattle.record.specs.Range.{RecordRange}
 use Rattle.record.specs.declared.Head.{Head}
@@ -27,7 +28,7 @@ use Rattle.apply.specs.Apply.{appliedLuma, appliedChroma, appliedField}
 use Rattle.state.specs.State.{State, fieldOf}
 use Rattle.macroblock.specs.Decode.{applied, quantiserAfter}
 use Rattle.macroblock.proofs.Laws.{changed, coded-quantiser}
-use Rattle.replay.specs.Stepped.{Stepped}
+use Rattle.replay.specs.InnerStepped.{Stepped}
 
 module _ (s : State) (bytes : List ℕ) (at : ℕ) where
   abbrev read : Got Record

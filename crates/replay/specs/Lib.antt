@@ -1,3 +1,3 @@
-pub mod Stepped
 pub mod Replay
-pub mod Recorded
+pub mod InnerRecorded
+pub mod InnerStepped

@@ -2,12 +2,13 @@
 ghost use mathlib.Core.Path.{_≡_};
 ghost use Prim.Native.Nat.{_*_, _≤_};
 ghost use lib.ListN.{length, drop};
-ghost use Rattle.picture.specs.Picture.{Sized, cellCount};
+ghost use Rattle.picture.specs.InnerPicture.{Sized};
+ghost use Rattle.picture.specs.Picture.{cellCount};
 ghost use Rattle.record.specs.Parse.{parseRecord};
 ghost use Rattle.transcript.specs.InnerParsing.{placeAnswer};
 ghost use Rattle.transcript.specs.InnerPlace.{parsePlace};
 ghost use Rattle.macroblock.specs.Entry.{stateBefore, stateAfter};
-ghost use Rattle.replay.specs.Stepped.{Stepped};
+ghost use Rattle.replay.specs.InnerStepped.{Stepped};
 use apply::applied::apply_coded;
 use apply::applied::apply_skip;
 use record::Head;

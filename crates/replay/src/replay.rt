@@ -2,10 +2,11 @@
 ghost use mathlib.Core.Path.{_≡_};
 ghost use Prim.Native.Nat.{_*_, _≤_};
 ghost use lib.ListN.{length};
-ghost use Rattle.picture.specs.Picture.{Sized, cellCount};
+ghost use Rattle.picture.specs.InnerPicture.{Sized};
+ghost use Rattle.picture.specs.Picture.{cellCount};
 ghost use Rattle.macroblock.specs.Entry.{stateBefore, stateAfter};
 ghost use Rattle.replay.specs.Replay.{replayed, quantiserOf, replayLeft};
-ghost use Rattle.replay.specs.Recorded.{Recorded, allLeft};
+ghost use Rattle.replay.specs.InnerRecorded.{Recorded, allLeft};
 use crate::ReplayAnswer;
 use crate::ReplayReport;
 use crate::redo::replay_record;

@@ -11,13 +11,15 @@ use Rattle.refusal.specs.declared.Refusal.{Refusal}
 use Rattle.refusal.specs.declared.Refusal.the-variants.{NumberForm}
 use Rattle.refusal.proofs.Formats.{bounded}
 use Rattle.refusal.proofs.Local.{apart}
-use Rattle.number.specs.Number.{readNumber, numberAnswer}
+use Rattle.number.specs.Number.{readNumber}
+use Rattle.number.specs.InnerNumber.{numberAnswer}
 use Rattle.number.specs.declared.NumberAnswer.the-variants as number
 use Rattle.number.proofs.Numbers.{number-format, number-length, refused-form}
 use Rattle.number.proofs.Answers.{number-answered, number-refused}
 use Rattle.refusal.proofs.Lists.{Takes, Next, mapped, untilAll, until-next, until-none, tally}
 use Rattle.state.specs.declared.Call.{Call}
-use Rattle.run.specs.Calls.{callIn, callsIn, calls, callAnswer, callsAnswer}
+use Rattle.run.specs.Calls.{callIn, callsIn, calls}
+use Rattle.run.specs.InnerCalls.{callAnswer, callsAnswer}
 use Rattle.run.specs.declared.calls.CallAnswer.the-variants as one
 use Rattle.run.specs.declared.calls.CallsAnswer.the-variants as all
 

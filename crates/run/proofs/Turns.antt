@@ -8,7 +8,8 @@ use lib.ListN.{length, drop, length-drop}
 use Rattle.refusal.specs.Got.{Got, got, refused}
 use Rattle.refusal.specs.declared.Refusal.{Refusal}
 use Rattle.state.specs.declared.Call.{Call}
-use Rattle.run.specs.Calls.{callIn, calls, callAnswer}
+use Rattle.run.specs.Calls.{callIn, calls}
+use Rattle.run.specs.InnerCalls.{callAnswer}
 use Rattle.run.specs.declared.calls.CallAnswer.{CallAnswer}
 use Rattle.run.specs.declared.calls.CallAnswer.the-variants as one
 use Rattle.refusal.proofs.Lists.{Next}
@@ -21,7 +22,8 @@ use Rattle.macroblock.specs.declared.MbReport.{MbReport}
 use Rattle.macroblock.specs.declared.MbAnswer.{MbAnswer}
 use Rattle.macroblock.specs.declared.MbAnswer.the-variants.{Accepted, Refused}
 use Rattle.run.specs.Run.{Ran, ended, withCall, onward, ranFrom}
-use Rattle.run.specs.Left.{Left, reportOf, leaves, Listed, fromOf, callsLeft}
+use Rattle.run.specs.Left.{Left, reportOf, leaves}
+use Rattle.run.specs.InnerLeft.{Listed, fromOf, callsLeft}
 use Rattle.run.specs.declared.Stop.{Stop}
 use Rattle.run.specs.declared.Stop.the-variants.{Done, By}
 

@@ -9,11 +9,13 @@ use Rattle.refusal.specs.Got.{Got, got, refused}
 use Rattle.refusal.specs.declared.Refusal.{Refusal}
 use Rattle.state.specs.Questions.{askRun}
 use Rattle.state.specs.declared.Call.{Call}
-use Rattle.run.specs.Calls.{calls, callsAnswer}
+use Rattle.run.specs.Calls.{calls}
+use Rattle.run.specs.InnerCalls.{callsAnswer}
 use Rattle.run.specs.declared.calls.CallsAnswer.the-variants.{Calls, Refused}
 use Rattle.state.specs.State.{State, lengthsOf}
 use Rattle.run.specs.Run.{ended, ran, ranFrom, ranOf, ranList, stopOf}
-use Rattle.run.specs.Left.{Left, reportOf, leaves, listLeft, Listed, fromOf, callsLeft}
+use Rattle.run.specs.Left.{Left, reportOf, leaves, listLeft}
+use Rattle.run.specs.InnerLeft.{Listed, fromOf, callsLeft}
 use Rattle.run.specs.declared.Stop.the-variants.{By}
 
 apart : {A : Type 0} {why : Refusal} {n : ℕ} → Calls n ≡ Refused why → A

@@ -1,15 +1,13 @@
 -- A list of calls: three numbers each, column, row and mode. A list ends where its bytes end; 14 where a number is not in form, or the bytes end inside three numbers.
 -- Assumes nothing.
 use mathlib.Core.List.{List}
-use Prim.Native.Nat.{ℕ, _+_}
+use Prim.Native.Nat.{ℕ}
 use lib.ListN.{length}
-use Rattle.refusal.specs.Got.{Got, got, refused, andThen, mapGot}
+use Rattle.refusal.specs.Got.{Got, andThen, mapGot}
 use Rattle.number.specs.Number.{readNumber}
 use Rattle.refusal.specs.Until.{untilEnd}
 use Rattle.state.specs.declared.Call.{Call}
-use Rattle.run.specs.declared.calls.CallAnswer.{CallAnswer}
 use Rattle.run.specs.declared.calls.CallAnswer.the-variants as one
-use Rattle.run.specs.declared.calls.CallsAnswer.{CallsAnswer}
 use Rattle.run.specs.declared.calls.CallsAnswer.the-variants as all
 
 -- the call at the head of s: its column, row and mode may have any value
@@ -25,13 +23,3 @@ callsIn = untilEnd callIn
 -- a call has a byte at least
 unfoldable pub calls : List ℕ → Got (List Call)
 calls s = callsIn (length s) s
-
--- the answer of a reader that started at a place
-abbrev pub callAnswer : ℕ → Got Call → CallAnswer
-callAnswer at (got call n) = one.Call call (at + n)
-callAnswer at (refused why) = one.Refused why
-
--- how many there are
-abbrev pub callsAnswer : Got (List Call) → CallsAnswer
-callsAnswer (got cs n) = all.Calls (length cs)
-callsAnswer (refused why) = all.Refused why

@@ -1,7 +1,8 @@
 // The calls of a run, read from their bytes: three numbers each.
 ghost use mathlib.Core.Path.{_≡_};
 ghost use lib.ListN.{drop};
-ghost use Rattle.run.specs.Calls.{callIn, calls, callAnswer, callsAnswer};
+ghost use Rattle.run.specs.Calls.{callIn, calls};
+ghost use Rattle.run.specs.InnerCalls.{callAnswer, callsAnswer};
 use number::NumberAnswer;
 use number::read_number;
 use refusal::Refusal;

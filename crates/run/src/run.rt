@@ -1,7 +1,8 @@
 // The calls of a list, one after another, until one is refused.
 ghost use mathlib.Core.Path.{_≡_};
 ghost use Rattle.macroblock.specs.Entry.{stateBefore, stateAfter};
-ghost use Rattle.run.specs.Left.{Listed, leftOf, callsLeft, listLeft};
+ghost use Rattle.run.specs.InnerLeft.{Listed, callsLeft};
+ghost use Rattle.run.specs.Left.{leftOf, listLeft};
 use crate::Report;
 use crate::Stop;
 use crate::calls::CallAnswer;

@@ -7,7 +7,8 @@ use native.Mathlib.Omega.{arith}
 use borrow.Author.Tests.{leb-true, ltb-true, eqb-true}
 use lib.Dec.{eqb, leb, ltb}
 use Rattle.refusal.specs.declared.Refusal.{Refusal}
-use Rattle.picture.specs.Picture.{Sized, lumaLength, chromaLength, cellCount}
+use Rattle.picture.specs.InnerPicture.{Sized}
+use Rattle.picture.specs.Picture.{lumaLength, chromaLength, cellCount}
 use Rattle.state.specs.Questions.{thenAsk, gridRight, planesRight, stateRight, referenceThere, callRight, placeIn, askStart, askQuantiser, askPlace, askRest, askCall}
 use Rattle.state.specs.declared.Call.{Call}
 use Rattle.state.specs.declared.Lengths.{Lengths}

@@ -7,7 +7,8 @@ use native.Mathlib.Omega.{arith}
 use lib.IntN.{ℤ}
 use Rattle.refusal.specs.Got.{Got, got, refused}
 use Rattle.refusal.specs.declared.Refusal.{Refusal}
-use Rattle.record.specs.Record.{Record, recordOf}
+use Rattle.record.specs.Record.{Record}
+use Rattle.record.specs.InnerRecord.{recordOf}
 use Rattle.record.specs.declared.Head.{Head}
 use Rattle.transcript.specs.InnerParsing.{Parsing}
 use Rattle.transcript.specs.declared.parse.ParseAnswer.the-variants.{Parsed, Refused}

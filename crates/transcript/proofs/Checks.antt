@@ -24,7 +24,8 @@ use Rattle.transcript.specs.declared.parse.ParseAnswer.the-variants as p
 use Rattle.transcript.proofs.Answers.{parsed, parse-refused}
 use Rattle.transcript.proofs.Places.{CodedRead}
 use Rattle.transcript.specs.Records.{recordsIn, records}
-use Rattle.transcript.specs.Check.{recordAnswer, checkAnswer}
+use Rattle.transcript.specs.InnerCheck.{recordAnswer}
+use Rattle.transcript.specs.Check.{checkAnswer}
 use Rattle.transcript.specs.declared.check.RecordAnswer.the-variants as one
 use Rattle.transcript.specs.declared.check.CheckAnswer.the-variants.{Records, Refused}
 

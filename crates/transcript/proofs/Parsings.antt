@@ -11,15 +11,16 @@ use lib.Seq.{sets, drop-drop}
 use Rattle.refusal.specs.Got.{Got, got, refused, after, andThen, mapGot}
 use Rattle.refusal.specs.declared.Refusal.{Refusal}
 use Rattle.refusal.proofs.Formats.{got-value, got-count, never}
-use Rattle.number.specs.Number.{numberAnswer}
+use Rattle.number.specs.InnerNumber.{numberAnswer}
 use Rattle.number.specs.declared.NumberAnswer.the-variants as number
 use Rattle.number.proofs.Answers.{number-answered, number-refused}
 use Rattle.levels.specs.declared.svq3_coeff.ListAnswer.{ListAnswer}
 use Rattle.levels.specs.declared.svq3_coeff.ListAnswer.the-variants as list
 use Rattle.vectors.specs.Modes.{numMotionVectors}
-use Rattle.record.specs.Record.{Record, recordOf, noVectors, noLevels, withMotion, withResidual}
+use Rattle.record.specs.Record.{Record, noVectors, noLevels, withMotion, withResidual}
+use Rattle.record.specs.InnerRecord.{recordOf}
 use Rattle.record.specs.Parse.{field, readSigneds, parseItems, parseResidual, parseMotion}
-use Rattle.record.specs.Answers.{Left}
+use Rattle.record.specs.InnerAnswers.{Left}
 use Rattle.record.specs.declared.Head.{Head}
 use Rattle.record.proofs.Fields.{field-format}
 use Rattle.record.proofs.Answers.{ended, refused-by}

@@ -16,7 +16,8 @@ use Rattle.refusal.specs.Got.{Got, got, refused, after, andThen}
 use Rattle.refusal.specs.declared.Refusal.{Refusal}
 use Rattle.refusal.specs.declared.Refusal.the-variants.{NumberForm, FieldRange}
 use Rattle.refusal.proofs.Formats.{got-value, never}
-use Rattle.number.specs.Number.{readNumber, numberAnswer}
+use Rattle.number.specs.Number.{readNumber}
+use Rattle.number.specs.InnerNumber.{numberAnswer}
 use Rattle.number.specs.declared.NumberAnswer.the-variants as number
 use Rattle.number.proofs.Answers.{number-answered, number-refused}
 use Rattle.number.proofs.Numbers.{refused-form}

@@ -15,8 +15,10 @@ use Rattle.ints.specs.Z.{if_then_else_}
 use Rattle.refusal.specs.Got.{Got, got, refused, after, mapGot}
 use Rattle.refusal.specs.declared.Refusal.{Refusal}
 use Rattle.refusal.specs.declared.Refusal.the-variants.{FieldRange}
-use Rattle.number.specs.Number.{readNumber, numberAnswer}
-use Rattle.number.specs.SignedNumber.{readSigned, signedNumberAnswer}
+use Rattle.number.specs.Number.{readNumber}
+use Rattle.number.specs.InnerNumber.{numberAnswer}
+use Rattle.number.specs.SignedNumber.{readSigned}
+use Rattle.number.specs.InnerSignedNumber.{signedNumberAnswer}
 use Rattle.number.specs.declared.NumberAnswer.the-variants.{Number, Refused}
 use Rattle.number.specs.declared.SignedNumberAnswer.the-variants as signed
 use Rattle.number.proofs.Answers.{number-answered, number-refused, signed-answered, signed-refused}
@@ -26,7 +28,7 @@ use Rattle.levels.specs.declared.svq3_coeff.ListAnswer.the-variants as list
 use Rattle.levels.proofs.Gots.{after-zero, after-after, map-after, map-map}
 use Rattle.record.specs.Items.{itemStart, itemCount, itemPlace}
 use Rattle.record.specs.Parse.{field, readSigneds, parseItem}
-use Rattle.record.specs.Answers.{Left}
+use Rattle.record.specs.InnerAnswers.{Left}
 use Rattle.record.proofs.Turns.{when-true, when-false}
 use Rattle.record.proofs.ListKinds.{start-most, start-in, is-luma, is-dc, is-ac}
 use Rattle.record.proofs.Fields.{signeds-format}

@@ -21,7 +21,7 @@ use Rattle.record.specs.Record.{Record, skipRecord}
 use Rattle.record.proofs.Lengths.{record-length}
 use Rattle.record.specs.Items.{writeLists}
 use Rattle.record.specs.Write.{signedNumbers, itemBytes, itemsBytes, restBytes, recordBytes}
-use Rattle.record.specs.Sides.{sideBytes}
+use Rattle.record.specs.InnerSides.{sideBytes}
 use Rattle.transcript.specs.InnerWritten.{Written}
 use Rattle.record.proofs.Turns.{when-false}
 use Rattle.record.proofs.Sets.{sets-append}

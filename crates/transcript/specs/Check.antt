@@ -1,7 +1,7 @@
 -- The transcript check: from the grid and the bytes it asks 1, then 14 and 15, and answers the number of records.
 -- Assumes nothing.
 use mathlib.Core.List.{List}
-use Prim.Native.Nat.{ℕ, _+_}
+use Prim.Native.Nat.{ℕ}
 use lib.ListN.{length}
 use Rattle.ints.specs.Z.{if_then_else_}
 use Rattle.refusal.specs.Got.{Got, got, refused}
@@ -9,15 +9,9 @@ use Rattle.refusal.specs.declared.Refusal.the-variants.{GridSize}
 use Rattle.state.specs.Questions.{gridRight}
 use Rattle.record.specs.Record.{Record}
 use Rattle.transcript.specs.Records.{records}
-use Rattle.transcript.specs.declared.check.RecordAnswer.{RecordAnswer}
 use Rattle.transcript.specs.declared.check.RecordAnswer.the-variants as one
 use Rattle.transcript.specs.declared.check.CheckAnswer.{CheckAnswer}
 use Rattle.transcript.specs.declared.check.CheckAnswer.the-variants.{Records, Refused}
-
--- of a record that is read from a place on: the place behind it
-abbrev pub recordAnswer : ℕ → Got Record → RecordAnswer
-recordAnswer at (got r n) = one.Record (at + n)
-recordAnswer at (refused why) = one.Refused why
 
 abbrev pub checkAnswer : Got (List Record) → CheckAnswer
 checkAnswer (got rs n) = Records (length rs)

@@ -5,3 +5,4 @@ pub mod InnerReceived
 pub mod InnerPlace
 pub mod Records
 pub mod Check
+pub mod InnerCheck

@@ -8,7 +8,7 @@ use native.Mathlib.Omega.{arith}
 use lib.IntN.{ℤ}
 use Rattle.picture.specs.Painted.{Inside}
 use Rattle.transform.specs.Added.{added}
-use Rattle.transform.specs.Four.{addedFour}
+use Rattle.transform.specs.InnerFour.{addedFour}
 
 -- its rows number no more than the plane has samples
 pub inside-high : {s x y w h size : ℕ} → Inside s x y w h size → y + h ≤ size

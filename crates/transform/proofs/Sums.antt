@@ -17,7 +17,7 @@ use Rattle.ints.proofs.Fits.{read, Within, within-fits, within-floor}
 use Rattle.ints.proofs.Laws.{sat-same}
 use Rattle.ints.proofs.Linear.{up, down, z-rules, add-z, diff-z, times-z, mag-z, abs-z}
 use Rattle.transform.specs.Residual.{sumOf, weighed, rounded}
-use Rattle.transform.specs.Passes.{Small, sumsOf}
+use Rattle.transform.specs.InnerPasses.{Small, sumsOf}
 
 -- ---- for `omega`
 module _ (a b c d : ℤ) where

@@ -10,7 +10,7 @@ use native.Mathlib.Omega.{arith}
 use lib.IntN.{ℤ, pos}
 use lib.ListN.{length, getD, set, length-set}
 use lib.Seq.{getD-set-same, getD-set-other}
-use Rattle.transform.specs.Passes.{rowSums, Rows, columnSums, Columns}
+use Rattle.transform.specs.InnerPasses.{rowSums, Rows, columnSums, Columns}
 use Rattle.transform.proofs.Laws.{below-4}
 
 module _ (l : List ℤ) (p q r s : ℕ) (a b c d : ℤ) where

@@ -2,6 +2,7 @@ pub mod Tables
 pub mod Residual
 pub mod ChromaDc
 pub mod Added
-pub mod Arrays
-pub mod Four
-pub mod Passes
+pub mod InnerArrays
+pub mod InnerFour
+pub mod InnerPasses
+pub mod InnerResidual

@@ -5,15 +5,10 @@ use Prim.Native.Nat.{ℕ, zero, suc, _+_, _*_}
 use lib.IntN.{ℤ, pos, _+ℤ_, _-ℤ_, _*ℤ_}
 use lib.ListN.{getD}
 use Rattle.ints.specs.Z.{satZ, floorZ}
-use Rattle.transform.specs.Tables.{dequantCoeff, chromaCoeff}
 
 -- the sixteen numbers of l from `at` on, row by row
 unfoldable pub placed : List ℤ → ℕ → ℕ → ℕ → ℤ
 placed l at r c = getD l (at + (4 * r + c)) (pos 0)
-
--- a block without levels
-unfoldable pub noLevels : ℕ → ℕ → ℤ
-noLevels r c = pos 0
 
 -- levels times the quantiser's entry, saturated
 unfoldable pub scaled : ℕ → (ℕ → ℕ → ℤ) → ℕ → ℕ → ℤ
@@ -45,11 +40,3 @@ rounded t dc = floorZ (t +ℤ pos 169 *ℤ dc +ℤ pos 524288) 1048576
 -- the residuals of a block of levels: rows, then columns, then rounded
 unfoldable pub residual : ℕ → ℤ → (ℕ → ℕ → ℤ) → ℕ → ℕ → ℤ
 residual scale dc levels r c = rounded (columnsOf (rowsOf (scaled scale levels)) r c) dc
-
--- of a luma block of sixteen levels from `at` on
-unfoldable pub lumaResidual : ℕ → List ℤ → ℕ → ℕ → ℕ → ℤ
-lumaResidual q levels at = residual (dequantCoeff q) (pos 0) (placed levels at)
-
--- of a chroma block, with its DC
-unfoldable pub chromaResidual : ℕ → ℤ → List ℤ → ℕ → ℕ → ℕ → ℤ
-chromaResidual q dc levels at = residual (chromaCoeff q) dc (placed levels at)

@@ -6,7 +6,7 @@ ghost use lib.Dec.{leb};
 ghost use lib.IntN.{pos, natAbs, _*ℤ_};
 ghost use lib.ListN.{length, getD};
 ghost use Rattle.transform.specs.Residual.{placed, rounded};
-ghost use Rattle.transform.specs.Arrays.{listed};
+ghost use Rattle.transform.specs.InnerArrays.{listed};
 ghost use Rattle.transform.specs.Passes.{
   Small,
   sumsOf,

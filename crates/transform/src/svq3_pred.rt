@@ -6,10 +6,10 @@ ghost use lib.ListN.{length};
 ghost use lib.Signed.{mag};
 ghost use Rattle.ints.specs.Z.{clip1Z, minZ};
 ghost use Rattle.picture.specs.Painted.{Inside};
-ghost use Rattle.picture.specs.Rows.{row};
+ghost use Rattle.picture.specs.InnerRows.{row};
 ghost use Rattle.transform.specs.Residual.{placed};
 ghost use Rattle.transform.specs.Added.{added};
-ghost use Rattle.transform.specs.Arrays.{Short, raisedAt};
+ghost use Rattle.transform.specs.InnerArrays.{Short, raisedAt};
 
 // The lesser of a number and 255.
 fn at_most_255(v: i16) -> i16

@@ -6,7 +6,7 @@ use native.Mathlib.Omega.{arith}
 use Rattle.refusal.specs.Got.{Got, got, refused}
 use Rattle.refusal.specs.declared.Refusal.{Refusal}
 use Rattle.bits.proofs.Answers.{Answered}
-use Rattle.vectors.specs.Precision.{precisionAnswer}
+use Rattle.vectors.specs.InnerPrecision.{precisionAnswer}
 use Rattle.vectors.specs.declared.svq3_mb.Svq3MvPrecision.{Svq3MvPrecision}
 use Rattle.vectors.specs.declared.svq3_mb.PrecisionAnswer.the-variants.{Precision, Refused}
 

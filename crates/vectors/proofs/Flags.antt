@@ -9,7 +9,8 @@ use lib.ListN.{length, getD, drop}
 use Rattle.refusal.specs.declared.Refusal.the-variants.{Truncated}
 use Rattle.bits.specs.Bits.{bitList}
 use Rattle.bits.proofs.BitAt.{past, here}
-use Rattle.vectors.specs.Precision.{bothFlags, oneFlag, precisionAnswer}
+use Rattle.vectors.specs.Precision.{bothFlags, oneFlag}
+use Rattle.vectors.specs.InnerPrecision.{precisionAnswer}
 use Rattle.vectors.specs.declared.svq3_mb.Svq3MvPrecision.{Svq3MvPrecision}
 use Rattle.vectors.specs.declared.svq3_mb.Svq3MvPrecision.the-variants.{Fullpel, Halfpel, Thirdpel}
 use Rattle.vectors.specs.declared.svq3_mb.PrecisionAnswer.{PrecisionAnswer}

@@ -9,15 +9,17 @@ use lib.Dec.{lit<}
 use lib.IntN.{ℤ, natAbs}
 use lib.ListN.{length}
 use Rattle.picture.specs.Painted.{Inside}
-use Rattle.picture.specs.Picture.{Within, cellCount}
+use Rattle.picture.specs.InnerPicture.{Within}
+use Rattle.picture.specs.Picture.{cellCount}
 use Rattle.picture.proofs.Laws.{plane-inside}
 use Rattle.vectors.specs.Modes.{partitionWidth, partitionHeight, numMotionVectors, offsetX, offsetY}
 use Rattle.vectors.proofs.Partitions.{cut, inside-units, offset-x, offset-y}
-use Rattle.picture.specs.Field.{Field, fieldOf}
+use Rattle.picture.specs.Field.{Field}
+use Rattle.picture.specs.InnerField.{fieldOf}
 use Rattle.vectors.specs.Predict.{predicted, predictor}
 use Rattle.vectors.specs.Stored.{storedField}
-use Rattle.vectors.specs.Window.{Seen, Part, cornerPairs, cornerMarks}
-pub use Rattle.vectors.specs.Window.{Follows}
+use Rattle.vectors.specs.InnerWindow.{Seen, Part, cornerPairs, cornerMarks}
+pub use Rattle.vectors.specs.InnerWindow.{Follows}
 use Rattle.vectors.specs.declared.svq3_frame.Vector.{Vector}
 use Rattle.vectors.proofs.Predictors.{held-size}
 use Rattle.vectors.proofs.Storing.{stored-cols, stored-rows, stored-sized}

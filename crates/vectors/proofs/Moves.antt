@@ -17,7 +17,7 @@ use Rattle.ints.proofs.Laws.{sat-fits, sat-same, no-over, over-sat, add-diff}
 use Rattle.ints.proofs.Same.{reads}
 use Rattle.vectors.proofs.Tests.{neither}
 use Rattle.vectors.specs.Units.{roundToSixths, convertPredictor, storedScale, summed, scaled, storedPart, clippedPart}
-use Rattle.vectors.specs.Samples.{unitsInSample}
+use Rattle.vectors.specs.InnerSamples.{unitsInSample}
 use Rattle.vectors.specs.Difference.{differenceOf}
 use Rattle.vectors.specs.declared.svq3_mb.Svq3MvPrecision.{Svq3MvPrecision}
 use Rattle.vectors.specs.declared.svq3_mb.Svq3MvPrecision.the-variants.{Fullpel, Halfpel, Thirdpel}

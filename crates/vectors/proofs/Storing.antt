@@ -12,14 +12,14 @@ use lib.Dec.{eqb, ltb}
 use lib.IntN.{ℤ, pos}
 use lib.ListN.{length, getD}
 use Rattle.ints.specs.Z.{if_then_else_}
-use Rattle.picture.specs.Rows.{row, rows}
+use Rattle.picture.specs.InnerRows.{row, rows}
 use Rattle.picture.specs.Painted.{within, inside, painted, Inside}
 use Rattle.picture.specs.Picture.{cellCount, always, filled}
 use Rattle.picture.proofs.Laws.{more, rows-more, each-at, painted-length, within-true, within-in}
 use Rattle.vectors.proofs.Tests.{and-left, and-right, same-test}
 use Rattle.picture.specs.Field.{Field}
 use Rattle.vectors.specs.Predict.{vector, cellAt, nearAt}
-pub use Rattle.vectors.specs.Window.{FieldSized}
+pub use Rattle.vectors.specs.InnerWindow.{FieldSized}
 use Rattle.vectors.specs.Stored.{pairOf, storedVectors, storedMarks, storedField}
 use Rattle.vectors.specs.declared.svq3_frame.Near.{Near}
 use Rattle.vectors.specs.declared.svq3_frame.Near.the-variants.{Missing, Here}

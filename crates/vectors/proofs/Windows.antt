@@ -17,15 +17,17 @@ use lib.Seq.{getD-set-same, getD-set-other}
 use Rattle.ints.specs.Z.{if_then_else_}
 use Rattle.ints.proofs.Fits.{if-yes, if-no}
 use Rattle.picture.specs.Painted.{within}
-use Rattle.picture.specs.Picture.{Within}
-use Rattle.picture.specs.Rows.{row}
+use Rattle.picture.specs.InnerPicture.{Within}
+use Rattle.picture.specs.InnerRows.{row}
 use Rattle.picture.proofs.Laws.{row-length, row-same, row-other, within-true, within-in}
-use Rattle.picture.specs.Field.{Field, fieldOf}
+use Rattle.picture.specs.Field.{Field}
+use Rattle.picture.specs.InnerField.{fieldOf}
 use Rattle.vectors.specs.Predict.{vector, cellAt, nearAt, leftOf, aboveOf, aboveLeftOf, orElse, combined, predicted}
 use Rattle.vectors.specs.Stored.{storedField}
 use Rattle.vectors.proofs.Tests.{neither, same-test}
 use Rattle.vectors.proofs.Storing.{shown, FieldSized, near-stored}
-use Rattle.vectors.specs.Window.{Window, End, first, last, Sight, on-left, on-right, above, corner, Seen, Part, pairSet, cornerPairs, cornerMarks}
+use Rattle.vectors.specs.InnerWindow.{Window, End, Sight, Seen, Part, pairSet, cornerPairs, cornerMarks}
+use Rattle.vectors.specs.Window.{first, last, on-left, on-right, above, corner}
 use Rattle.vectors.specs.declared.svq3_frame.Near.{Near}
 use Rattle.vectors.specs.declared.svq3_frame.Near.the-variants.{Missing, Here}
 

@@ -3,6 +3,7 @@ pub mod Precision
 pub mod Predict
 pub mod Units
 pub mod Stored
-pub mod Window
-pub mod Samples
 pub mod Difference
+pub mod InnerPrecision
+pub mod InnerSamples
+pub mod InnerWindow

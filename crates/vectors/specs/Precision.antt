@@ -3,13 +3,11 @@
 use mathlib.Core.Path.{_≡_}
 use mathlib.Core.Bool.{Bool, true, false}
 use mathlib.Core.List.{List, [], _∷_}
-use Prim.Native.Nat.{ℕ, zero, suc, _+_}
+use Prim.Native.Nat.{ℕ, zero, suc}
 use Rattle.refusal.specs.Got.{Got, got, refused}
 use Rattle.refusal.specs.declared.Refusal.the-variants.{Truncated}
 use Rattle.vectors.specs.declared.svq3_mb.Svq3MvPrecision.{Svq3MvPrecision}
 use Rattle.vectors.specs.declared.svq3_mb.Svq3MvPrecision.the-variants.{Fullpel, Halfpel, Thirdpel}
-use Rattle.vectors.specs.declared.svq3_mb.PrecisionAnswer.{PrecisionAnswer}
-use Rattle.vectors.specs.declared.svq3_mb.PrecisionAnswer.the-variants.{Precision, Refused}
 
 -- the number of a precision in a record
 abbrev pub precisionNumber : Svq3MvPrecision → ℕ
@@ -69,8 +67,3 @@ precisionBits true true p = bothBits p
 precisionBits true false p = oneBit p
 precisionBits false true p = oneBit p
 precisionBits false false p = []
-
--- the answer of a reader that started at a place
-abbrev pub precisionAnswer : ℕ → Got Svq3MvPrecision → PrecisionAnswer
-precisionAnswer at (got p n) = Precision p (at + n)
-precisionAnswer at (refused r) = Refused r

@@ -4,7 +4,8 @@ ghost use Prim.Native.Nat.{_*_, _/_, _%_, _≤_, _<_, _^_};
 ghost use lib.ListN.{length, drop};
 ghost use Rattle.bits.specs.Bits.{bitList};
 ghost use Rattle.vectors.specs.Modes.{partitionWidth, partitionHeight, numMotionVectors, offsetX, offsetY};
-ghost use Rattle.vectors.specs.Precision.{precisionNumber, oneFlag, bothFlags, precision, precisionAnswer};
+ghost use Rattle.vectors.specs.Precision.{precisionNumber, oneFlag, bothFlags, precision};
+ghost use Rattle.vectors.specs.InnerPrecision.{precisionAnswer};
 use bits::bitreader::bit_at;
 use refusal::Refusal;
 

@@ -2,7 +2,7 @@
 use mir.Syntax.{w32}
 use mir.Facts.{toZ-ofZ}
 use Rattle.ints.specs.Z.{satZ, overZ}
-use Rattle.ints.specs.Held.{heldZ}
+use Rattle.ints.specs.InnerHeld.{heldZ}
 use Rattle.ints.proofs.Fits.{back, via}
 use borrow.Author.Needs.{needs}
 use Rattle.ints.proofs.hold.Statement.{statement}

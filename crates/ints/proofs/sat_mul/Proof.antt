@@ -1,5 +1,5 @@
 -- The product of two i32 fits 64 bits, and `hold` holds it.
-use Rattle.ints.specs.Held.{heldZ}
+use Rattle.ints.specs.InnerHeld.{heldZ}
 use Rattle.ints.proofs.Fits.{signed, via}
 use Rattle.ints.proofs.Same.{reads}
 use borrow.Author.Needs.{needs}

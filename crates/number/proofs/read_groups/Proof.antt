@@ -5,7 +5,8 @@ use native.Mathlib.Omega.{arith}
 use borrow.Author.Needs.{needs}
 use lib.ListN.{length, drop, getD}
 use lib.Dec.{lit<}
-use Rattle.number.specs.Number.{readNumber, numberAnswer}
+use Rattle.number.specs.Number.{readNumber}
+use Rattle.number.specs.InnerNumber.{numberAnswer}
 use Rattle.number.proofs.Reading.{joined, start, ends, last-group, large, not-shortest, fine, goes-on, sixth, group-most, group-room, next-value}
 use Rattle.number.proofs.read_groups.Statement.{statement}
 use Rattle.number.proofs.read_groups.Tie as tie

@@ -3,7 +3,7 @@ use mathlib.Core.Path.{sym, ap, _∙_}
 use mathlib.Core.List.{List}
 use Prim.Native.Nat.{ℕ}
 use lib.Dec.{lit<}
-use Rattle.record.specs.Record.{recordOf}
+use Rattle.record.specs.InnerRecord.{recordOf}
 use Rattle.apply.specs.Blocks.{chromaAdded}
 use Rattle.apply.proofs.Macroblocks.{coded-chroma, place-within, no-skip}
 use Rattle.apply.proofs.applied.apply_chroma.Statement.{statement}

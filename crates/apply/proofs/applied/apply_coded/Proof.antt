@@ -1,7 +1,8 @@
 -- `apply::applied::apply_coded`: luma, chroma, then the cells.
 use mathlib.Core.Path.{sym, ap, _∙_}
-use Rattle.picture.specs.Field.{Field, fieldOf}
-use Rattle.record.specs.Record.{recordOf}
+use Rattle.picture.specs.Field.{Field}
+use Rattle.picture.specs.InnerField.{fieldOf}
+use Rattle.record.specs.InnerRecord.{recordOf}
 use Rattle.apply.proofs.Macroblocks.{place-within, no-skip}
 use Rattle.apply.proofs.Fields.{coded-field}
 use Rattle.apply.proofs.applied.apply_coded.Statement.{statement}

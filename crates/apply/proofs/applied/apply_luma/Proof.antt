@@ -2,7 +2,7 @@
 use mathlib.Core.Path.{sym, ap, _∙_}
 use mathlib.Core.List.{List}
 use Prim.Native.Nat.{ℕ}
-use Rattle.record.specs.Record.{recordOf}
+use Rattle.record.specs.InnerRecord.{recordOf}
 use Rattle.apply.specs.Blocks.{lumaUpTo}
 use Rattle.apply.proofs.Macroblocks.{coded-luma, place-within, no-skip}
 use Rattle.apply.proofs.applied.apply_luma.Statement.{statement}

@@ -6,7 +6,7 @@ use native.Mathlib.Omega.{arith}
 use lib.Dec.{T, eqb, eqb→eq}
 use Rattle.bits.proofs.Table.{every, at}
 use Rattle.vectors.specs.Modes.{partitionWidth, partitionHeight}
-use Rattle.apply.specs.Cells.{ownerOf}
+use Rattle.apply.specs.InnerCells.{ownerOf}
 use Rattle.apply.proofs.svq3_picture.owners.Statement.{statement}
 use Rattle.apply.proofs.svq3_picture.owners.Tie as tie
 

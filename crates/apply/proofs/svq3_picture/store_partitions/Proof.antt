@@ -7,12 +7,12 @@ use lib.ListN.{length}
 use borrow.Author.Needs.{needs}
 use Rattle.picture.specs.Painted.{Inside}
 use Rattle.picture.specs.Picture.{always}
-use Rattle.picture.specs.Rows.{rows}
+use Rattle.picture.specs.InnerRows.{rows}
 use Rattle.picture.proofs.Laws.{Row, inside-row, rows-more, rows-painted}
-use Rattle.picture.specs.Field.{fieldOf}
+use Rattle.picture.specs.InnerField.{fieldOf}
 use Rattle.vectors.proofs.Following.{macroblock-cells}
 use Rattle.vectors.proofs.Storing.{pairs-inside}
-use Rattle.apply.specs.Cells.{ownNumber}
+use Rattle.apply.specs.InnerCells.{ownNumber}
 use Rattle.apply.proofs.Fields.{owns-more}
 use Rattle.apply.proofs.Tiles.{tiled-numbers, tiled-marks}
 use Rattle.apply.proofs.svq3_picture.store_partitions.Statement.{statement}

@@ -5,8 +5,8 @@ use native.Mathlib.Omega.{arith}
 use lib.ListN.{length, length-set}
 use mir.Syntax.{w32}
 use Rattle.ints.proofs.Fits.{back}
-use Rattle.picture.specs.Rows.{row}
-use Rattle.apply.specs.Cells.{ownNumber}
+use Rattle.picture.specs.InnerRows.{row}
+use Rattle.apply.specs.InnerCells.{ownNumber}
 use Rattle.apply.proofs.Fields.{own-more}
 use Rattle.apply.proofs.svq3_picture.store_row.Statement.{statement}
 use Rattle.apply.proofs.svq3_picture.store_row.Tie as tie

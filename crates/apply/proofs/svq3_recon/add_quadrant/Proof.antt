@@ -7,7 +7,7 @@ use borrow.Author.Needs.{needs}
 use Rattle.ints.specs.Z.{if_then_else_}
 use Rattle.picture.proofs.Laws.{plane-inside}
 use Rattle.levels.specs.Pattern.{quadrantCoded}
-use Rattle.apply.specs.Squares.{quadrantAdded}
+use Rattle.apply.specs.InnerSquares.{quadrantAdded}
 use Rattle.apply.proofs.Residuals.{quadrant-inside}
 use Rattle.apply.proofs.svq3_recon.add_quadrant.Statement.{statement}
 use Rattle.apply.proofs.svq3_recon.add_quadrant.Tie as tie

@@ -5,9 +5,9 @@ use borrow.Author.Needs.{needs}
 use lib.IntN.{pos}
 use lib.ListN.{getD}
 use Rattle.transform.specs.Tables.{chromaCoeff}
-use Rattle.transform.specs.Residual.{chromaResidual}
-use Rattle.transform.specs.Four.{addedFour}
-use Rattle.apply.specs.Squares.{squareAdded}
+use Rattle.transform.specs.InnerResidual.{chromaResidual}
+use Rattle.transform.specs.InnerFour.{addedFour}
+use Rattle.apply.specs.InnerSquares.{squareAdded}
 use Rattle.apply.proofs.Residuals.{dc-square}
 use Rattle.apply.proofs.svq3_recon.add_square.Statement.{statement}
 use Rattle.apply.proofs.svq3_recon.add_square.Tie as tie

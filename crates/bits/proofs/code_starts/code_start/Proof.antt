@@ -5,7 +5,7 @@ use native.Mathlib.Omega.{arith}
 use borrow.Author.Needs.{needs}
 use lib.Bits.{bitAnd, bitOr, mask-lt}
 use lib.Count.{leadingZeros}
-use Rattle.bits.specs.Starts.{Begins}
+use Rattle.bits.specs.InnerStarts.{Begins}
 use Rattle.bits.proofs.CodeStarts.{computed}
 use Rattle.bits.proofs.code_starts.code_start.Statement.{statement}
 use Rattle.bits.proofs.code_starts.code_start.Tie as tie

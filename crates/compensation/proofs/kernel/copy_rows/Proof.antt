@@ -5,11 +5,11 @@ use native.Mathlib.Nat.{mul-le-mul-right}
 use native.Mathlib.Omega.{arith}
 use denote.Ref.{now}
 use lib.ListN.{length}
-use Rattle.picture.specs.Rows.{rows, run}
+use Rattle.picture.specs.InnerRows.{rows, run}
 use Rattle.picture.proofs.Laws.{Row, inside-row, rows-more, rows-painted}
 use Rattle.compensation.specs.Formula.{along, formula}
 use Rattle.ints.specs.Z.{if_then_else_}
-use Rattle.compensation.specs.Kernel.{fourAt, fourRow, fourBlock}
+use Rattle.compensation.specs.InnerKernel.{fourAt, fourRow, fourBlock}
 use Rattle.compensation.proofs.kernel.copy_rows.Statement.{statement}
 use Rattle.compensation.proofs.kernel.copy_rows.Tie as tie
 

@@ -4,9 +4,9 @@ use Prim.Native.Nat.{_≤_, _+_, _-_, _*_}
 use native.Mathlib.Omega.{arith}
 use denote.Ref.{now}
 use lib.ListN.{length}
-use Rattle.picture.specs.Rows.{rows}
+use Rattle.picture.specs.InnerRows.{rows}
 use Rattle.picture.proofs.Laws.{Row, inside-row, more, rows-more, rows-painted}
-use Rattle.compensation.specs.Kernel.{mixedBlock}
+use Rattle.compensation.specs.InnerKernel.{mixedBlock}
 use Rattle.compensation.proofs.kernel.mix_block.Statement.{statement}
 use Rattle.compensation.proofs.kernel.mix_block.Tie as tie
 

@@ -1,7 +1,7 @@
 -- `compensation::kernel::mix_code` answers `mixCode`.
 use mathlib.Core.Path.{refl}
 use borrow.Author.Needs.{needs}
-use Rattle.compensation.specs.Kernel.{mixCode}
+use Rattle.compensation.specs.InnerKernel.{mixCode}
 use Rattle.compensation.proofs.kernel.mix_code.Statement.{statement}
 use Rattle.compensation.proofs.kernel.mix_code.Tie as tie
 

@@ -2,7 +2,7 @@
 use Prim.Native.Nat.{_/_, _%_}
 use native.Mathlib.Omega.{arith}
 use borrow.Author.Needs.{needs}
-use Rattle.compensation.specs.Kernel.{mixCode, mixSaid}
+use Rattle.compensation.specs.InnerKernel.{mixCode, mixSaid}
 use Rattle.compensation.proofs.Mixes.{said-so}
 use Rattle.compensation.proofs.kernel.mix_of.Statement.{statement}
 use Rattle.compensation.proofs.kernel.mix_of.Tie as tie

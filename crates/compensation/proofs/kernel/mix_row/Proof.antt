@@ -3,9 +3,9 @@ use mathlib.Core.Path.{_≡_, refl}
 use Prim.Native.Nat.{_≤_, _-_}
 use native.Mathlib.Omega.{arith}
 use lib.ListN.{length, length-set}
-use Rattle.picture.specs.Rows.{row}
+use Rattle.picture.specs.InnerRows.{row}
 use Rattle.picture.proofs.Laws.{row-more}
-use Rattle.compensation.specs.Kernel.{mixedAt, mixedRow}
+use Rattle.compensation.specs.InnerKernel.{mixedAt, mixedRow}
 use Rattle.compensation.proofs.kernel.mix_row.Statement.{statement}
 use Rattle.compensation.proofs.kernel.mix_row.Tie as tie
 

@@ -1,7 +1,7 @@
 -- `compensation::kernel::mix_taps` answers `mixedTaps`.
 use mathlib.Core.Path.{refl}
 use borrow.Author.Needs.{needs}
-use Rattle.compensation.specs.Kernel.{mixedTaps}
+use Rattle.compensation.specs.InnerKernel.{mixedTaps}
 use Rattle.compensation.proofs.kernel.mix_taps.Statement.{statement}
 use Rattle.compensation.proofs.kernel.mix_taps.Tie as tie
 

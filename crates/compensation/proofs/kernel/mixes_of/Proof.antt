@@ -2,7 +2,7 @@
 use mathlib.Core.Path.{_≡_, sym, ap}
 use native.Mathlib.Omega.{arith}
 use lib.ListN.{getD}
-use Rattle.compensation.specs.Kernel.{mixes}
+use Rattle.compensation.specs.InnerKernel.{mixes}
 use Rattle.compensation.proofs.kernel.mixes_of.Statement.{statement}
 use Rattle.compensation.proofs.kernel.mixes_of.Tie as tie
 

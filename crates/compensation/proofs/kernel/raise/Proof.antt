@@ -3,7 +3,7 @@ use mathlib.Core.Path.{_≡_, ap, _∙_}
 use Prim.Native.Nat.{ℕ, zero, suc, _/_, _%_, _≤_}
 use native.Mathlib.Omega.{arith}
 use lib.Bits.{bitAnd, bitOr, or-step, and-zero-r, or-zero-r, and-mask}
-use Rattle.compensation.specs.Kernel.{raised}
+use Rattle.compensation.specs.InnerKernel.{raised}
 use Rattle.compensation.proofs.kernel.raise.Statement.{statement}
 use Rattle.compensation.proofs.kernel.raise.Tie as tie
 

@@ -2,7 +2,7 @@
 use mathlib.Core.Path.{refl}
 use borrow.Author.Needs.{needs}
 use native.Mathlib.Omega.{arith}
-use Rattle.compensation.specs.Kernel.{way}
+use Rattle.compensation.specs.InnerKernel.{way}
 use Rattle.compensation.proofs.kernel.way_of.Statement.{statement}
 use Rattle.compensation.proofs.kernel.way_of.Tie as tie
 

@@ -3,7 +3,7 @@ use mathlib.Core.Path.{refl}
 use Prim.Native.Nat.{_*_, _≤_}
 use native.Mathlib.Nat.{mul-le-mul-left}
 use native.Mathlib.Omega.{arith}
-use Rattle.compensation.specs.Kernel.{weighed}
+use Rattle.compensation.specs.InnerKernel.{weighed}
 use Rattle.compensation.proofs.kernel.weigh.Statement.{statement}
 use Rattle.compensation.proofs.kernel.weigh.Tie as tie
 

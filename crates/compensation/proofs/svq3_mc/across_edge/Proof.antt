@@ -7,7 +7,7 @@ use mir.Facts.{toZ-ofZ}
 use borrow.Author.Needs.{needs}
 use Rattle.picture.proofs.Laws.{painted-values}
 use Rattle.compensation.specs.Formula.{formula}
-use Rattle.compensation.specs.Kernel.{originOf, windowBlock}
+use Rattle.compensation.specs.InnerKernel.{originOf, windowBlock}
 use Rattle.compensation.proofs.Taps.{origin-le, extra-le}
 use Rattle.compensation.proofs.Wide.{wide-sample}
 use Rattle.compensation.proofs.svq3_mc.across_edge.Statement.{statement}

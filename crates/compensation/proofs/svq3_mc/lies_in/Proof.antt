@@ -10,7 +10,7 @@ use mir.Facts.{toZ-ofZ}
 use borrow.Author.Needs.{needs}
 use Rattle.ints.proofs.Fits.{back, cast-pos}
 use Rattle.ints.proofs.Linear.{mag-z, diff-z}
-use Rattle.compensation.specs.Taps.{liesIn}
+use Rattle.compensation.specs.InnerTaps.{liesIn}
 use Rattle.compensation.proofs.svq3_mc.lies_in.Statement.{statement}
 use Rattle.compensation.proofs.svq3_mc.lies_in.Tie as tie
 

@@ -4,7 +4,7 @@ use Prim.Native.Nat.{_+_, _-_, _*_, _<_}
 use native.Mathlib.Omega.{arith}
 use lib.ListN.{length}
 use borrow.Author.Needs.{needs}
-use Rattle.compensation.specs.Kernel.{extra}
+use Rattle.compensation.specs.InnerKernel.{extra}
 use Rattle.compensation.proofs.Mixes.{mixed-block}
 use Rattle.compensation.proofs.Taps.{extra-zero, mixed-room}
 use Rattle.compensation.proofs.tiles.interpolate.Statement.{statement}

@@ -5,7 +5,7 @@ use native.Mathlib.Omega.{arith}
 use lib.ListN.{length, replicate}
 use borrow.Author.Needs.{needs}
 use Rattle.picture.proofs.Laws.{row-length}
-use Rattle.compensation.specs.Lanes.{laneAt, takenAt}
+use Rattle.compensation.specs.InnerLanes.{laneAt, takenAt}
 use Rattle.compensation.proofs.Lanes.{loaded, kept}
 use Rattle.compensation.proofs.tiles.load_both.Statement.{statement}
 use Rattle.compensation.proofs.tiles.load_both.Tie as tie

@@ -2,9 +2,9 @@
 use mathlib.Core.Path.{_≡_, refl}
 use Prim.Native.Nat.{_≤_, _<_, _+_, _-_, _*_, _/_, _%_}
 use native.Mathlib.Omega.{arith}
-use Rattle.picture.specs.Rows.{row}
+use Rattle.picture.specs.InnerRows.{row}
 use Rattle.picture.proofs.Laws.{row-more}
-use Rattle.compensation.specs.Lanes.{laneOf, laneAt}
+use Rattle.compensation.specs.InnerLanes.{laneOf, laneAt}
 use Rattle.compensation.proofs.Lanes.{lane-place}
 use Rattle.compensation.proofs.tiles.load_lanes.Statement.{statement}
 use Rattle.compensation.proofs.tiles.load_lanes.Tie as tie

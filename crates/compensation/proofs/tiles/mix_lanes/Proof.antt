@@ -4,9 +4,9 @@ use Prim.Native.Nat.{_≤_, _-_}
 use native.Mathlib.Nat.{zero-add}
 use native.Mathlib.Omega.{arith}
 use lib.ListN.{replicate}
-use Rattle.picture.specs.Rows.{row}
+use Rattle.picture.specs.InnerRows.{row}
 use Rattle.picture.proofs.Laws.{row-more}
-use Rattle.compensation.specs.Lanes.{mixedLane}
+use Rattle.compensation.specs.InnerLanes.{mixedLane}
 use Rattle.compensation.proofs.tiles.mix_lanes.Statement.{statement}
 use Rattle.compensation.proofs.tiles.mix_lanes.Tie as tie
 

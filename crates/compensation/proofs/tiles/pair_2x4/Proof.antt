@@ -1,7 +1,7 @@
 -- `compensation::tiles::pair_2x4` meets its contract: one tile, half of it for each plane.
 use native.Mathlib.Omega.{arith}
 use borrow.Author.Needs.{needs}
-use Rattle.compensation.specs.Kernel.{mixedBlock}
+use Rattle.compensation.specs.InnerKernel.{mixedBlock}
 use Rattle.compensation.proofs.Lanes.{tile-whole}
 use Rattle.compensation.proofs.tiles.pair_2x4.Statement.{statement}
 use Rattle.compensation.proofs.tiles.pair_2x4.Tie as tie

@@ -5,7 +5,7 @@ use native.Mathlib.Nat.{add-mul, mul-le-mul-right}
 use native.Mathlib.Omega.{arith}
 use lib.ListN.{length, length-set}
 use Rattle.picture.proofs.Laws.{rows-painted}
-use Rattle.compensation.specs.Lanes.{tiled}
+use Rattle.compensation.specs.InnerLanes.{tiled}
 use Rattle.compensation.proofs.Lanes.{lane-place, cells, cells-none, cells-more, cells-all, lane-back}
 use Rattle.compensation.proofs.tiles.store_lanes.Statement.{statement}
 use Rattle.compensation.proofs.tiles.store_lanes.Tie as tie

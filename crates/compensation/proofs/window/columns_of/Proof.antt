@@ -4,9 +4,9 @@ use Prim.Native.Nat.{_≤_, _-_}
 use native.Mathlib.Nat.{zero-add}
 use native.Mathlib.Omega.{arith}
 use lib.ListN.{replicate}
-use Rattle.picture.specs.Rows.{row}
+use Rattle.picture.specs.InnerRows.{row}
 use Rattle.picture.proofs.Laws.{row-more}
-use Rattle.compensation.specs.Kernel.{nearFrom}
+use Rattle.compensation.specs.InnerKernel.{nearFrom}
 use Rattle.compensation.proofs.window.columns_of.Statement.{statement}
 use Rattle.compensation.proofs.window.columns_of.Tie as tie
 

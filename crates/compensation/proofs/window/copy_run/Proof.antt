@@ -1,7 +1,7 @@
 -- `compensation::window::copy_run` meets its contract: sixteen at once and the last.
 use mathlib.Core.Path.{refl}
 use borrow.Author.Needs.{needs}
-use Rattle.picture.specs.Rows.{run}
+use Rattle.picture.specs.InnerRows.{run}
 use Rattle.picture.proofs.Laws.{row-more}
 use Rattle.compensation.proofs.window.copy_run.Statement.{statement}
 use Rattle.compensation.proofs.window.copy_run.Tie as tie

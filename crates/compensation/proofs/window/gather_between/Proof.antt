@@ -3,8 +3,8 @@ use mathlib.Core.Path.{_≡_, refl, _∙_}
 use Prim.Native.Nat.{_≤_, _+_, _-_, _*_}
 use native.Mathlib.Omega.{arith}
 use lib.ListN.{length}
-use Rattle.picture.specs.Rows.{run}
-use Rattle.compensation.specs.Kernel.{runAt, Wide}
+use Rattle.picture.specs.InnerRows.{run}
+use Rattle.compensation.specs.InnerKernel.{runAt, Wide}
 use Rattle.compensation.proofs.Sides.{line-small}
 use Rattle.compensation.proofs.Taps.{line-place}
 use Rattle.compensation.proofs.Wide.{wide-none, wide-more, wide-kept, wide-here}

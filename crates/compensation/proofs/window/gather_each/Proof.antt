@@ -3,7 +3,7 @@ use mathlib.Core.Path.{_≡_, refl, _∙_}
 use Prim.Native.Nat.{_≤_, _-_, _*_}
 use native.Mathlib.Omega.{arith}
 use lib.ListN.{length}
-use Rattle.compensation.specs.Kernel.{picked, pickedAt, Wide}
+use Rattle.compensation.specs.InnerKernel.{picked, pickedAt, Wide}
 use Rattle.compensation.proofs.Sides.{line-small}
 use Rattle.compensation.proofs.Taps.{line-place}
 use Rattle.compensation.proofs.Wide.{wide-none, wide-more, wide-kept, wide-here}

@@ -1,7 +1,7 @@
 -- `compensation::window::near_of` meets its contract: before the first, one of them, past the last.
 use native.Mathlib.Omega.{arith}
 use borrow.Author.Needs.{needs}
-use Rattle.compensation.specs.Kernel.{near}
+use Rattle.compensation.specs.InnerKernel.{near}
 use Rattle.compensation.proofs.window.near_of.Statement.{statement}
 use Rattle.compensation.proofs.window.near_of.Tie as tie
 

@@ -9,7 +9,7 @@ use borrow.Author.Needs.{needs}
 use Rattle.ints.specs.Z.{clampZ}
 use Rattle.ints.proofs.Fits.{read, back, cast-unsigned}
 use Rattle.ints.proofs.Same.{reads}
-use Rattle.compensation.specs.Kernel.{originOf}
+use Rattle.compensation.specs.InnerKernel.{originOf}
 use Rattle.compensation.proofs.Taps.{origin-le, origin-back}
 use Rattle.compensation.proofs.window.origin.Statement.{statement}
 use Rattle.compensation.proofs.window.origin.Tie as tie

@@ -1,6 +1,6 @@
 -- `levels::short_codes::chroma_dc` answers the entry of `chromaDc`: each arm by the number that it was taken for.
 use native.Mathlib.Omega.{arith}
-use Rattle.levels.specs.Entries.{chromaDc}
+use Rattle.levels.specs.InnerEntries.{chromaDc}
 use Rattle.levels.proofs.Arms.{entry, last}
 use Rattle.levels.proofs.short_codes.chroma_dc.Statement.{statement}
 use Rattle.levels.proofs.short_codes.chroma_dc.Tie as tie

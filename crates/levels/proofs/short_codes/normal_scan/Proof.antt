@@ -1,6 +1,6 @@
 -- `levels::short_codes::normal_scan` answers the entry of `normalScan`: each arm by the number that it was taken for.
 use native.Mathlib.Omega.{arith}
-use Rattle.levels.specs.Entries.{normalScan}
+use Rattle.levels.specs.InnerEntries.{normalScan}
 use Rattle.levels.proofs.Arms.{entry, last}
 use Rattle.levels.proofs.short_codes.normal_scan.Statement.{statement}
 use Rattle.levels.proofs.short_codes.normal_scan.Tie as tie

@@ -7,7 +7,7 @@ use lib.ListN.{drop}
 use mir.Syntax.{w32}
 use mir.Val.{toZ, ofZ}
 use Rattle.bits.specs.Bits.{bitList}
-use Rattle.bits.specs.Window.{Shows}
+use Rattle.bits.specs.InnerWindow.{Shows}
 use Rattle.levels.specs.Book.{positions}
 use Rattle.levels.specs.declared.svq3_coeff.ResidualBook.{ResidualBook}
 use Rattle.levels.specs.declared.svq3_coeff.ResidualBook.the-variants.{NormalScan, ChromaDc}

@@ -2,7 +2,7 @@
 use Prim.Native.Nat.{_/_}
 use native.Mathlib.Omega.{arith}
 use borrow.Author.Needs.{needs}
-use Rattle.levels.specs.Short.{entryLevel}
+use Rattle.levels.specs.InnerShort.{entryLevel}
 use Rattle.levels.proofs.Shorts.{less-fits, level-less}
 use Rattle.levels.proofs.svq3_coeff.entry_level.Statement.{statement}
 use Rattle.levels.proofs.svq3_coeff.entry_level.Tie as tie

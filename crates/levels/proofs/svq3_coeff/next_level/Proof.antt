@@ -7,8 +7,9 @@ use lib.ListN.{length, drop}
 use mir.Facts.{toZ-ofZ}
 use Rattle.refusal.specs.Got.{got}
 use Rattle.bits.specs.Bits.{bitList}
-use Rattle.levels.specs.Short.{entrySize}
-use Rattle.levels.specs.Levels.{levelRun, stepAnswer}
+use Rattle.levels.specs.InnerShort.{entrySize}
+use Rattle.levels.specs.Levels.{levelRun}
+use Rattle.levels.specs.InnerLevels.{stepAnswer}
 use Rattle.levels.specs.declared.svq3_coeff.LevelRun.the-variants.{End}
 use Rattle.levels.proofs.Shorts.{one-found, size-few, size-some, level-found, entry-stepped, end-stepped, inside}
 use Rattle.levels.proofs.svq3_coeff.next_level.Statement.{statement}

@@ -5,8 +5,9 @@ use Prim.Native.Nat.{_<_}
 use native.Mathlib.Omega.{arith}
 use lib.IntN.{ℤ}
 use denote.Ref.{now}
-use Rattle.picture.specs.Picture.{Within}
-use Rattle.record.specs.Record.{noVectors, noLevels, recordOf}
+use Rattle.picture.specs.InnerPicture.{Within}
+use Rattle.record.specs.Record.{noVectors, noLevels}
+use Rattle.record.specs.InnerRecord.{recordOf}
 use Rattle.record.specs.Range.{RecordRange, HeadRange}
 use Rattle.record.specs.declared.Head.{Head}
 use Rattle.state.specs.State.{State}

@@ -3,7 +3,7 @@ use mathlib.Core.Path.{_≡_}
 use Prim.Native.Nat.{ℕ}
 use native.Mathlib.Omega.{arith}
 use denote.Ref.{now}
-use Rattle.picture.specs.Picture.{Within}
+use Rattle.picture.specs.InnerPicture.{Within}
 use Rattle.state.specs.State.{State}
 use Rattle.macroblock.specs.Entry.{stateOf}
 use Rattle.macroblock.proofs.Laws as laws

@@ -6,7 +6,7 @@ use native.Mathlib.Numerals.{add-one}
 use denote.Ref.{now}
 use lib.ListN.{length}
 use Rattle.picture.specs.Picture.{seen, copied}
-use Rattle.picture.specs.Rows.{rows, run}
+use Rattle.picture.specs.InnerRows.{rows, run}
 use Rattle.picture.proofs.Laws.{Row, inside-row, rows-painted}
 use Rattle.picture.proofs.rows.copy_block.Statement.{statement}
 use Rattle.picture.proofs.rows.copy_block.Tie as tie

@@ -7,7 +7,7 @@ use native.Mathlib.Numerals.{add-one}
 use native.Mathlib.Omega.{arith}
 use lib.Dec.{lit≤}
 use lib.ListN.{length, getD, replicate, length-set}
-use Rattle.picture.specs.Rows.{row, run}
+use Rattle.picture.specs.InnerRows.{row, run}
 use Rattle.picture.proofs.Laws.{row-values, row-same}
 use Rattle.picture.proofs.rows.store_row.Statement.{statement}
 use Rattle.picture.proofs.rows.store_row.Tie as tie

@@ -5,7 +5,7 @@ use native.Mathlib.Nat.{zero-add}
 use native.Mathlib.Numerals.{add-one}
 use native.Mathlib.Omega.{arith}
 use lib.ListN.{replicate}
-use Rattle.picture.specs.Rows.{row, run}
+use Rattle.picture.specs.InnerRows.{row, run}
 use Rattle.picture.proofs.rows.take_row.Statement.{statement}
 use Rattle.picture.proofs.rows.take_row.Tie as tie
 use Rattle.picture.proofs.rows.take_row.Reads as reads

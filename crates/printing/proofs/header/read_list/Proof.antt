@@ -3,7 +3,8 @@ use mathlib.Core.Path.{_≡_, refl, sym, ap, _∙_}
 use Prim.Native.Nat.{ℕ, _-_, _≤_}
 use native.Mathlib.Omega.{arith}
 use lib.ListN.{drop}
-use Rattle.printing.specs.Header.{callsFrom, listEnd}
+use Rattle.printing.specs.Header.{callsFrom}
+use Rattle.printing.specs.InnerHeader.{listEnd}
 use Rattle.printing.specs.declared.header.ListEnd.{ListEnd}
 use Rattle.printing.proofs.Headers.{list-none, list-stop, list-on}
 use borrow.Author.Needs.{needs}

@@ -4,7 +4,7 @@ use Prim.Native.Nat.{_-_, _≤_, _<_}
 use native.Mathlib.Omega.{arith}
 use lib.ListN.{length, drop}
 use Rattle.record.specs.Parse.{parseRecord}
-use Rattle.transcript.specs.Check.{recordAnswer}
+use Rattle.transcript.specs.InnerCheck.{recordAnswer}
 use Rattle.transcript.specs.declared.check.RecordAnswer.the-variants.{Record}
 use Rattle.printing.proofs.Lines.{Going, begin, end, in-form, further, there, fits, on}
 use borrow.Author.Needs.{needs}

@@ -7,7 +7,7 @@ use lib.IntN.{natAbs}
 use lib.ListN.{length-set}
 use Rattle.bits.specs.Code.{bitValue}
 use Rattle.vectors.proofs.Partitions.{num-most}
-use Rattle.vectors.specs.Window.{Part}
+use Rattle.vectors.specs.InnerWindow.{Part}
 use Rattle.vectors.proofs.Moves.{field-read}
 use Rattle.reading.proofs.Vectors.{value-most}
 use Rattle.reading.proofs.Partitions.{part-at, held-at, moved-at}

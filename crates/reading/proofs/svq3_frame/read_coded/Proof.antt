@@ -3,7 +3,7 @@ use mathlib.Core.Path.{sym, _∙_}
 use borrow.Author.Needs.{needs}
 use Rattle.bits.specs.Bits.{bitList}
 use Rattle.state.specs.State.{Context}
-use Rattle.reading.specs.Answers.{contextOf}
+use Rattle.reading.specs.InnerAnswers.{contextOf}
 use Rattle.reading.proofs.Readings.{no-precision, no-vectors, with-vectors}
 use Rattle.reading.proofs.svq3_frame.read_coded.Statement.{statement}
 use Rattle.reading.proofs.svq3_frame.read_coded.Tie as tie

@@ -7,11 +7,11 @@ use lib.ListN.{length}
 use Rattle.bits.specs.Bits.{bitList}
 use Rattle.vectors.specs.Modes.{partitionWidth, partitionHeight, numMotionVectors}
 use Rattle.vectors.proofs.Partitions.{num-most}
-use Rattle.picture.specs.Field.{fieldOf}
+use Rattle.picture.specs.InnerField.{fieldOf}
 use Rattle.vectors.proofs.Following.{macroblock-cells, follows-start}
 use Rattle.record.proofs.Padded.{length-noVectors}
 use Rattle.reading.specs.Read.{Moving, atFirst}
-use Rattle.reading.specs.Answers.{Holds}
+use Rattle.reading.specs.InnerAnswers.{Holds}
 use Rattle.reading.proofs.Steps.{Going, begins, goes-on, stops, ends}
 use Rattle.reading.proofs.svq3_frame.read_vectors.Statement.{statement}
 use Rattle.reading.proofs.svq3_frame.read_vectors.Tie as tie

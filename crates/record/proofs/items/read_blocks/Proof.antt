@@ -6,8 +6,8 @@ use borrow.Author.Needs.{needs}
 use lib.ListN.{length, drop}
 use Rattle.bits.specs.Bits.{bitList}
 use Rattle.levels.specs.declared.svq3_coeff.ResidualBook.the-variants.{NormalScan}
-use Rattle.record.specs.Sides.{readSide}
-use Rattle.record.specs.Left.{leftSide}
+use Rattle.record.specs.InnerSides.{readSide}
+use Rattle.record.specs.InnerLeft.{leftSide}
 use Rattle.record.proofs.Left.{Goes, goes-all, side-on, side-stops, side-ends}
 use Rattle.record.proofs.items.read_blocks.Statement.{statement}
 use Rattle.record.proofs.items.read_blocks.Tie as tie

@@ -3,7 +3,7 @@ use mathlib.Core.Path.{sym, _∙_}
 use borrow.Author.Needs.{needs}
 use Rattle.bits.specs.Bits.{bitList}
 use Rattle.record.specs.Items.{readItems}
-use Rattle.record.specs.Left.{leftItems}
+use Rattle.record.specs.InnerLeft.{leftItems}
 use Rattle.record.proofs.Sides.{dc-side, dc-place, some-class}
 use Rattle.record.proofs.Left.{goes-all, goes-last, side-leaves, items-on, items-stop, no-chroma}
 use Rattle.record.proofs.items.read_chroma.Statement.{statement}

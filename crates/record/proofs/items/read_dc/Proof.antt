@@ -4,8 +4,8 @@ use native.Mathlib.Omega.{arith}
 use borrow.Author.Needs.{needs}
 use Rattle.bits.specs.Bits.{bitList}
 use Rattle.levels.specs.declared.svq3_coeff.ResidualBook.the-variants.{ChromaDc}
-use Rattle.record.specs.Sides.{readSide}
-use Rattle.record.specs.Left.{leftSide}
+use Rattle.record.specs.InnerSides.{readSide}
+use Rattle.record.specs.InnerLeft.{leftSide}
 use Rattle.record.proofs.Left.{goes-all, side-on, side-stops, side-last}
 use Rattle.record.proofs.items.read_dc.Statement.{statement}
 use Rattle.record.proofs.items.read_dc.Tie as tie

@@ -6,7 +6,7 @@ use borrow.Author.Needs.{needs}
 use lib.ListN.{length, drop}
 use Rattle.bits.specs.Bits.{bitList}
 use Rattle.record.specs.Items.{readItems}
-use Rattle.record.specs.Left.{leftItems}
+use Rattle.record.specs.InnerLeft.{leftItems}
 use Rattle.record.proofs.Left.{Goes, goes-all, goes-last, quadrant-on, quadrant-stops}
 use Rattle.record.proofs.items.read_items.Statement.{statement}
 use Rattle.record.proofs.items.read_items.Tie as tie

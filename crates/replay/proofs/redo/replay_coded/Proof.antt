@@ -1,7 +1,8 @@
 -- `replay::redo::replay_coded`: the motion is read into zeros, and the record that it makes is applied.
 use mathlib.Core.Path.{refl}
 use denote.Ref.{now}
-use Rattle.record.specs.Record.{recordOf, noVectors, noLevels}
+use Rattle.record.specs.InnerRecord.{recordOf}
+use Rattle.record.specs.Record.{noVectors, noLevels}
 use Rattle.transcript.proofs.Places.{coded-read}
 use Rattle.state.specs.State.{State}
 use Rattle.macroblock.specs.Entry.{stateOf}

@@ -5,7 +5,7 @@ use native.Mathlib.Omega.{arith}
 use denote.Ref.{now}
 use lib.ListN.{length}
 use Rattle.macroblock.specs.Entry.{stateOf}
-use Rattle.replay.specs.Recorded.{allLeft}
+use Rattle.replay.specs.InnerRecorded.{allLeft}
 use Rattle.replay.proofs.Records.{Replaying, start, end, further, on}
 use Rattle.replay.proofs.replay.replay_records.Statement.{statement}
 use Rattle.replay.proofs.replay.replay_records.Tie as tie

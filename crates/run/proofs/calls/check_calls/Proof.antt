@@ -4,7 +4,8 @@ use Prim.Native.Nat.{_-_}
 use native.Mathlib.Omega.{arith}
 use lib.ListN.{length, drop}
 use Rattle.refusal.proofs.Lists.{Counting, counting, count-end, count-stop, count-on}
-use Rattle.run.specs.Calls.{callIn, calls, callsAnswer}
+use Rattle.run.specs.Calls.{callIn, calls}
+use Rattle.run.specs.InnerCalls.{callsAnswer}
 use Rattle.run.specs.declared.calls.CallsAnswer.the-variants as all
 use Rattle.run.proofs.Listing.{call-takes, call-answered, call-refused, calls-tally}
 use borrow.Author.Needs.{needs}

@@ -6,7 +6,8 @@ use borrow.Author.Needs.{needs}
 use denote.Ref.{now}
 use lib.ListN.{length}
 use Rattle.macroblock.specs.Entry.{stateOf}
-use Rattle.run.specs.Left.{leftOf, callsLeft}
+use Rattle.run.specs.Left.{leftOf}
+use Rattle.run.specs.InnerLeft.{callsLeft}
 use Rattle.run.specs.declared.Report.{Report}
 use Rattle.run.proofs.Turns.{Going, start, end, in-form, stopped, on, further, forward}
 use Rattle.run.proofs.run.run_calls.Statement.{statement}

@@ -66,7 +66,7 @@ use Rattle.macroblock.proofs.svq3_frame.decode_inter_mb.Symbol.{name as #macrob
 use Rattle.macroblock.proofs.svq3_frame.decode_inter_mb.Met as callee-thm
 use Rattle.macroblock.proofs.cursor_by as after
 use Rattle.macroblock.proofs.cursor_by.Symbol as after-def
-use Rattle.macroblock.proofs.cursor_by.Symbol.{name as #outcome·cursor-by}
+use Rattle.macroblock.proofs.cursor_by.Symbol.{name as #macroblock·cursor-by}
 use Rattle.macroblock.proofs.cursor_by.Met as after-thm
 use Rattle.thin.proofs.svq3_frame.decode_inter_mb_at.Key.{name as #thin·decode-inter-mb-at}
 use Rattle.thin.proofs.svq3_frame.decode_inter_mb_at as decode-inter-mb-at
@@ -183,7 +183,7 @@ module _ {M : Type 1} (𝓤 : URA M) (H : Heap 𝓤) (A : Atoms 𝓤) (W : Given
   made : (n : Cursor) (vs : List Val) → Is T.the-row n vs → Is T.the-row n (mach n ∷ [])
   made n vs g = LL.owes T.the-type T′.the-laws n ((refl, place-fits n vs g), ((refl, quantiser-fits n vs g), tt))
 
-  module _ (C : Calls 𝓤 H) (Λ : Loops 𝓤 H) (fm : FmC 𝓤 H (W .laws) C) (known : Triple 𝓤 (C #macroblock·decode-inter-mb) (Callee 𝓤 H A at-mem run)) (known′ : Triple 𝓤 (C #outcome·cursor-by) (After 𝓤 H A at-mem run)) where
+  module _ (C : Calls 𝓤 H) (Λ : Loops 𝓤 H) (fm : FmC 𝓤 H (W .laws) C) (known : Triple 𝓤 (C #macroblock·decode-inter-mb) (Callee 𝓤 H A at-mem run)) (known′ : Triple 𝓤 (C #macroblock·cursor-by) (After 𝓤 H A at-mem run)) where
     walk : Is (MutSlice (named 0) κ0 u8) x0 (v x0 ∷ []) → Is (MutSlice (named 1) κ1 u8) x1 (v x1 ∷ []) → Is (MutSlice (named 2) κ2 u8) x2 (v x2 ∷ []) → Is (MutSlice (named 3) κ3 i32) x3 (v x3 ∷ []) → Is (MutSlice (named 4) κ4 u8) x4 (v x4 ∷ []) → Is (MutSlice (named 5) κ5 u8) x5 (v x5 ∷ []) → Is (ShrSlice (named 6) κ6 u8) x6 (v x6 ∷ []) → Is (ShrSlice (named 7) κ7 u8) x7 (v x7 ∷ []) → Is (ShrSlice (named 8) κ8 u8) x8 (v x8 ∷ []) → Is (ShrSlice (named 9) κ9 u8) x9 (v x9 ∷ []) → Is V0.the-row w0 (vw0 ∷ []) → Is V1.the-row w1 (vw1 ∷ []) → Is usize w2 (vw2 ∷ []) → ent 𝓤 (onEntry 𝓤 H A decode-inter-mb-at.signature (κ0, (κ1, (κ2, (κ3, (κ4, (κ5, (κ6, (κ7, (κ8, (κ9, (κ, tt))))))))))) (q0, (q1, (q2, (q3, (q4, (q5, (q6, (q7, (q8, (q9, (q, tt))))))))))) a vals) (WpFn 𝓤 H C Λ code.function (v x0 ∷ v x1 ∷ v x2 ∷ v x3 ∷ v x4 ∷ v x5 ∷ v x6 ∷ v x7 ∷ v x8 ∷ v x9 ∷ vptr b o ∷ vw0 ∷ vw1 ∷ vw2 ∷ []) Post)
     walk is0 is1 is2 is3 is4 is5 is6 is7 is8 is9 isw0 isw1 isw2 =
         qed W ((‵ (flft κ0 q0) ⊛ ‵ (flft κ1 q1) ⊛ ‵ (flft κ2 q2) ⊛ ‵ (flft κ3 q3) ⊛ ‵ (flft κ4 q4) ⊛ ‵ (flft κ5 q5) ⊛ ‵ (flft κ6 q6) ⊛ ‵ (flft κ7 q7) ⊛ ‵ (flft κ8 q8) ⊛ ‵ (flft κ9 q9) ⊛ ‵ (flft κ q) ⊛ ‵ ftrue) ∷ ‵ (owns (MutSlice (named 0) κ0 u8 ∷ MutSlice (named 1) κ1 u8 ∷ MutSlice (named 2) κ2 u8 ∷ MutSlice (named 3) κ3 i32 ∷ MutSlice (named 4) κ4 u8 ∷ MutSlice (named 5) κ5 u8 ∷ ShrSlice (named 6) κ6 u8 ∷ ShrSlice (named 7) κ7 u8 ∷ ShrSlice (named 8) κ8 u8 ∷ ShrSlice (named 9) κ9 u8 ∷ MutRef (named 10) κ T.the-row ∷ V0.the-row ∷ V1.the-row ∷ usize ∷ []) a vals) ∷ []) ∵ enter ! C Λ code.function (v x0 ∷ v x1 ∷ v x2 ∷ v x3 ∷ v x4 ∷ v x5 ∷ v x6 ∷ v x7 ∷ v x8 ∷ v x9 ∷ vptr b o ∷ vw0 ∷ vw1 ∷ vw2 ∷ []) _ $
@@ -233,11 +233,11 @@ module _ {M : Type 1} (𝓤 : URA M) (H : Heap 𝓤) (A : Atoms 𝓤) (W : Given
         keep ! (0 ∷ 1 ∷ 2 ∷ 6 ∷ 17 ∷ 16 ∷ 15 ∷ 14 ∷ 13 ∷ 12 ∷ 21 ∷ 20 ∷ 19 ∷ 18 ∷ []) $ by ! (exits m u zs n e e′ l0 l1 l2 l3 l4 l5 isw0 isw1 isw2 is))))))))))))))))))))))))))))))))))))))))))))))))))
 
 module _ {M : Type 1} (𝓤 : URA M) (H : Heap 𝓤) (A : Atoms 𝓤) (W : Given 𝓤 H A) (mem : Memory → SProp 𝓤) (run : Routine → Fun 𝓤) where
-  walks : (C : Calls 𝓤 H) (Λ : Loops 𝓤 H) → FmC 𝓤 H (W .laws) C → Triple 𝓤 (C #macroblock·decode-inter-mb) (Callee 𝓤 H A mem run) → Triple 𝓤 (C #outcome·cursor-by) (After 𝓤 H A mem run) → Walks 𝓤 H A decode-inter-mb-at.ended stayed (WpFn 𝓤 H C Λ code.function) (decode-inter-mb-at.clauses 𝓤 H A mem run)
+  walks : (C : Calls 𝓤 H) (Λ : Loops 𝓤 H) → FmC 𝓤 H (W .laws) C → Triple 𝓤 (C #macroblock·decode-inter-mb) (Callee 𝓤 H A mem run) → Triple 𝓤 (C #macroblock·cursor-by) (After 𝓤 H A mem run) → Walks 𝓤 H A decode-inter-mb-at.ended stayed (WpFn 𝓤 H C Λ code.function) (decode-inter-mb-at.clauses 𝓤 H A mem run)
   walks C Λ fm known known′ = walked 𝓤 H A decode-inter-mb-at.ended stayed (decode-inter-mb-at.clauses 𝓤 H A mem run) (WpFn 𝓤 H C Λ code.function) (λ κs. (slice-vals, (slice-vals, (slice-vals, (slice-vals, (slice-vals, (slice-vals, (slice-vals, (slice-vals, (slice-vals, (slice-vals, (ptr-vals, (LL.vals V0.the-type V0′.the-laws, (LL.vals V1.the-type V1′.the-laws, (uint-vals w64, tt))))))))))))))) (λ κs. (mut-slice-tells (named 0) (κs .0) u8, (mut-slice-tells (named 1) (κs .1 .0) u8, (mut-slice-tells (named 2) (κs .1 .1 .0) u8, (mut-slice-tells (named 3) (κs .1 .1 .1 .0) i32, (mut-slice-tells (named 4) (κs .1 .1 .1 .1 .0) u8, (mut-slice-tells (named 5) (κs .1 .1 .1 .1 .1 .0) u8, (shr-slice-tells (named 6) (κs .1 .1 .1 .1 .1 .1 .0) u8, (shr-slice-tells (named 7) (κs .1 .1 .1 .1 .1 .1 .1 .0) u8, (shr-slice-tells (named 8) (κs .1 .1 .1 .1 .1 .1 .1 .1 .0) u8, (shr-slice-tells (named 9) (κs .1 .1 .1 .1 .1 .1 .1 .1 .1 .0) u8, (mut-tells (named 10) (κs .1 .1 .1 .1 .1 .1 .1 .1 .1 .1 .0) T.the-row, (LL.tells V0.the-type V0′.the-laws, (LL.tells V1.the-type V1′.the-laws, (uint-tells w64, tt)))))))))))))))
       (λ κs qs bounds a g are. via 𝓤 _ (fst∗ 𝓤 _ (emp 𝓤)) (walk 𝓤 H A W mem run (κs .0) (κs .1 .0) (κs .1 .1 .0) (κs .1 .1 .1 .0) (κs .1 .1 .1 .1 .0) (κs .1 .1 .1 .1 .1 .0) (κs .1 .1 .1 .1 .1 .1 .0) (κs .1 .1 .1 .1 .1 .1 .1 .0) (κs .1 .1 .1 .1 .1 .1 .1 .1 .0) (κs .1 .1 .1 .1 .1 .1 .1 .1 .1 .0) (κs .1 .1 .1 .1 .1 .1 .1 .1 .1 .1 .0) (qs .0) (qs .1 .0) (qs .1 .1 .0) (qs .1 .1 .1 .0) (qs .1 .1 .1 .1 .0) (qs .1 .1 .1 .1 .1 .0) (qs .1 .1 .1 .1 .1 .1 .0) (qs .1 .1 .1 .1 .1 .1 .1 .0) (qs .1 .1 .1 .1 .1 .1 .1 .1 .0) (qs .1 .1 .1 .1 .1 .1 .1 .1 .1 .0) (qs .1 .1 .1 .1 .1 .1 .1 .1 .1 .1 .0) (a .0) (a .1 .0) (a .1 .1 .0) (a .1 .1 .1 .0) (a .1 .1 .1 .1 .0) (a .1 .1 .1 .1 .1 .0) (a .1 .1 .1 .1 .1 .1 .0) (a .1 .1 .1 .1 .1 .1 .1 .0) (a .1 .1 .1 .1 .1 .1 .1 .1 .0) (a .1 .1 .1 .1 .1 .1 .1 .1 .1 .0) (a .1 .1 .1 .1 .1 .1 .1 .1 .1 .1 .0 .ptr .0) (a .1 .1 .1 .1 .1 .1 .1 .1 .1 .1 .0 .ptr .1) (a .1 .1 .1 .1 .1 .1 .1 .1 .1 .1 .0 .name) (a .1 .1 .1 .1 .1 .1 .1 .1 .1 .1 .0 .now) (a .1 .1 .1 .1 .1 .1 .1 .1 .1 .1 .1 .0) (a .1 .1 .1 .1 .1 .1 .1 .1 .1 .1 .1 .1 .0) (a .1 .1 .1 .1 .1 .1 .1 .1 .1 .1 .1 .1 .1 .0) C Λ fm known known′ (are .0) (are .1 .0) (are .1 .1 .0) (are .1 .1 .1 .0) (are .1 .1 .1 .1 .0) (are .1 .1 .1 .1 .1 .0) (are .1 .1 .1 .1 .1 .1 .0) (are .1 .1 .1 .1 .1 .1 .1 .0) (are .1 .1 .1 .1 .1 .1 .1 .1 .0) (are .1 .1 .1 .1 .1 .1 .1 .1 .1 .0) (are .1 .1 .1 .1 .1 .1 .1 .1 .1 .1 .1 .0) (are .1 .1 .1 .1 .1 .1 .1 .1 .1 .1 .1 .1 .0) (are .1 .1 .1 .1 .1 .1 .1 .1 .1 .1 .1 .1 .1 .0)))
 
-meets : {M : Type 1} (𝓤 : URA M) (H : Heap 𝓤) (A : Atoms 𝓤) → Given 𝓤 H A → (mem : Memory → SProp 𝓤) (run : Routine → Fun 𝓤) (𝓣 : Tables 𝓤 H) → Triple 𝓤 (𝓣 .C #macroblock·decode-inter-mb) (Callee 𝓤 H A mem run) → Triple 𝓤 (𝓣 .C #outcome·cursor-by) (After 𝓤 H A mem run)
+meets : {M : Type 1} (𝓤 : URA M) (H : Heap 𝓤) (A : Atoms 𝓤) → Given 𝓤 H A → (mem : Memory → SProp 𝓤) (run : Routine → Fun 𝓤) (𝓣 : Tables 𝓤 H) → Triple 𝓤 (𝓣 .C #macroblock·decode-inter-mb) (Callee 𝓤 H A mem run) → Triple 𝓤 (𝓣 .C #macroblock·cursor-by) (After 𝓤 H A mem run)
     → Meets 𝓤 H A decode-inter-mb-at.signature (WpFn 𝓤 H (𝓣 .C) (𝓣 .Λ) code.function) (decode-inter-mb-at.spec 𝓤 H A mem run)
 meets 𝓤 H A W mem run 𝓣 known known′ =
     walk-meets 𝓤 H A decode-inter-mb-at.ended stayed W (goes-gave-slice 𝓤 H A W 11 0 tt (plain (λ _. u8)), (goes-gave-slice 𝓤 H A W 11 1 tt (plain (λ _. u8)), (goes-gave-slice 𝓤 H A W 11 2 tt (plain (λ _. u8)), (goes-gave-slice 𝓤 H A W 11 3 tt (plain (λ _. i32)), (goes-gave-slice 𝓤 H A W 11 4 tt (plain (λ _. u8)), (goes-gave-slice 𝓤 H A W 11 5 tt (plain (λ _. u8)), (goes-none-slice 𝓤 H A W 11 (6 ∷ []) tt (plain (λ _. u8)) yes, (goes-none-slice 𝓤 H A W 11 (7 ∷ []) tt (plain (λ _. u8)) yes, (goes-none-slice 𝓤 H A W 11 (8 ∷ []) tt (plain (λ _. u8)) yes, (goes-none-slice 𝓤 H A W 11 (9 ∷ []) tt (plain (λ _. u8)) yes, (goes-ref 𝓤 H A W 11 10 tt (plain (λ _. T.the-row)), (goes-none 𝓤 H A W 11 (λ _. V0.the-row) yes (λ κs x f. refl), (goes-none 𝓤 H A W 11 (λ _. V1.the-row) yes (λ κs x f. refl), (goes-none 𝓤 H A W 11 (λ _. usize) yes (λ κs x f. refl), tt)))))))))))))) (decode-inter-mb-at.clauses 𝓤 H A mem run)
@@ -250,4 +250,4 @@ decode-inter-mb-at-spec 𝓤 H 𝓜 𝓖 𝓡 =
     (tables 𝓤 H 𝓜 𝓡 code.env .C) (tables 𝓤 H 𝓜 𝓡 code.env .Λ) #thin·decode-inter-mb-at code.function (code.unfolded 𝓤 H 𝓜 𝓡)
     (meets 𝓤 H (𝓖 .A) (givenOf 𝓤 H 𝓜 𝓖) (𝓜 .mem) (𝓡 .run) (tablesOf 𝓤 H 𝓜 (tables 𝓤 H 𝓜 𝓡 code.env))
     (cited 𝓤 H (Callee 𝓤 H (𝓖 .A) (𝓜 .mem) (𝓡 .run)) 𝓜 𝓡 code.env #macroblock·decode-inter-mb callee-def.routine code.calls-macroblock·svq3-frame·decode-inter-mb (callee-thm.met 𝓤 H 𝓜 𝓖 𝓡))
-    (cited 𝓤 H (After 𝓤 H (𝓖 .A) (𝓜 .mem) (𝓡 .run)) 𝓜 𝓡 code.env #outcome·cursor-by after-def.routine code.calls-outcome·cursor-by (after-thm.met 𝓤 H 𝓜 𝓖 𝓡)))
+    (cited 𝓤 H (After 𝓤 H (𝓖 .A) (𝓜 .mem) (𝓡 .run)) 𝓜 𝓡 code.env #macroblock·cursor-by after-def.routine code.calls-macroblock·cursor-by (after-thm.met 𝓤 H 𝓜 𝓖 𝓡)))

@@ -1,7 +1,7 @@
 -- `transcript::check::check_record`: a skip ends behind its mode, another record where `check_coded` says.
 use mathlib.Core.Path.{sym, ap, _∙_}
 use Rattle.transcript.proofs.Places.{not-read, skip-read, coded-read}
-use Rattle.transcript.specs.Check.{recordAnswer}
+use Rattle.transcript.specs.InnerCheck.{recordAnswer}
 use Rattle.transcript.specs.declared.check.RecordAnswer.the-variants.{Record}
 use Rattle.transcript.proofs.Checks.{rest-answer}
 use borrow.Author.Needs.{needs}

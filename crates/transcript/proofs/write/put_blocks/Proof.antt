@@ -7,7 +7,7 @@ use lib.IntN.{ℤ}
 use lib.ListN.{take, drop}
 use Rattle.levels.specs.declared.svq3_coeff.ResidualBook.the-variants.{NormalScan}
 use Rattle.record.specs.Write.{signedNumbers}
-use Rattle.record.specs.Sides.{sideBytes}
+use Rattle.record.specs.InnerSides.{sideBytes}
 use Rattle.transcript.proofs.Writing.{Still, still-all, still-fits, still-more, still-none, first-list, no-list}
 use Rattle.transcript.proofs.write.put_blocks.Statement.{statement}
 use Rattle.transcript.proofs.write.put_blocks.Tie as tie

@@ -4,7 +4,8 @@ use Prim.Native.Nat.{ℕ, _+_, _≤_}
 use native.Mathlib.Omega.{arith}
 use lib.ListN.{length}
 use Rattle.number.specs.Number.{number}
-use Rattle.record.specs.Record.{Record, recordOf}
+use Rattle.record.specs.Record.{Record}
+use Rattle.record.specs.InnerRecord.{recordOf}
 use Rattle.record.specs.Write.{restBytes, recordBytes}
 use Rattle.record.proofs.Lengths.{record-length}
 use Rattle.transcript.proofs.Writing.{Due, due-all, due-fits, due-next, due-number, due-none, coded-parts}

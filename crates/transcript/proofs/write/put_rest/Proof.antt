@@ -6,7 +6,8 @@ use native.Mathlib.Omega.{arith}
 use lib.ListN.{take}
 use Rattle.number.specs.Number.{number}
 use Rattle.vectors.specs.Modes.{numMotionVectors}
-use Rattle.record.specs.Record.{Record, recordOf}
+use Rattle.record.specs.Record.{Record}
+use Rattle.record.specs.InnerRecord.{recordOf}
 use Rattle.record.specs.Write.{signedNumbers, itemsBytes, restBytes}
 use Rattle.record.proofs.Padded.{used-most}
 use Rattle.transcript.proofs.Writing.{Due, due-all, due-fits, due-next, due-number, due-none, rest-parts}

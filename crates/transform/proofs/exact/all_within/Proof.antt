@@ -9,7 +9,7 @@ use lib.IntN.{pos, natAbs}
 use lib.ListN.{getD}
 use mir.Syntax.{w32}
 use Rattle.ints.proofs.Fits.{back}
-use Rattle.transform.specs.Passes.{allWithin}
+use Rattle.transform.specs.InnerPasses.{allWithin}
 use Rattle.transform.proofs.exact.all_within.Statement.{statement}
 use Rattle.transform.proofs.exact.all_within.Tie as tie
 

@@ -11,7 +11,7 @@ use mir.Syntax.{w16, w32}
 use mir.Facts.{toZ-ofZ}
 use Rattle.ints.proofs.Fits.{read, back}
 use Rattle.transform.specs.Residual.{sumOf, rounded}
-use Rattle.transform.specs.Passes.{Small, sumsOf, columnSums}
+use Rattle.transform.specs.InnerPasses.{Small, sumsOf, columnSums}
 use Rattle.transform.proofs.Sums.{small-via, sum-abs}
 use Rattle.transform.proofs.exact.column.Statement.{statement}
 use Rattle.transform.proofs.exact.column.Tie as tie

@@ -8,7 +8,7 @@ use mir.Syntax.{w16, w32}
 use mir.Val.{toZ}
 use mir.Facts.{toZ-ofZ}
 use Rattle.ints.proofs.Fits.{back}
-use Rattle.transform.specs.Passes.{Columns}
+use Rattle.transform.specs.InnerPasses.{Columns}
 use Rattle.transform.proofs.Turns.{columns-turn}
 use Rattle.transform.proofs.exact.columns.Statement.{statement}
 use Rattle.transform.proofs.exact.columns.Tie as tie

@@ -7,7 +7,7 @@ use lib.IntN.{ℤ, pos, natAbs}
 use lib.ListN.{getD}
 use mir.Syntax.{w32}
 use Rattle.ints.proofs.Fits.{read, back}
-use Rattle.transform.specs.Passes.{Columns, Residuals}
+use Rattle.transform.specs.InnerPasses.{Columns, Residuals}
 use Rattle.transform.proofs.Unsaturated.{rows-abs, residuals-turn}
 use Rattle.transform.proofs.exact.residuals.Statement.{statement}
 use Rattle.transform.proofs.exact.residuals.Tie as tie

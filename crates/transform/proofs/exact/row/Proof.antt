@@ -5,7 +5,7 @@ use lib.Dec.{lit≤}
 use Prim.Native.Nat.{_+_}
 use mir.Syntax.{w32}
 use Rattle.ints.proofs.Fits.{read, back}
-use Rattle.transform.specs.Passes.{sumsOf, exactAt, rowSums}
+use Rattle.transform.specs.InnerPasses.{sumsOf, exactAt, rowSums}
 use Rattle.transform.proofs.Sums.{small-via}
 use Rattle.transform.proofs.exact.row.Statement.{statement}
 use Rattle.transform.proofs.exact.row.Tie as tie

@@ -5,7 +5,7 @@ use Prim.Native.Nat.{_≤_, _-_}
 use native.Mathlib.Omega.{arith}
 use mir.Syntax.{w32}
 use Rattle.ints.proofs.Fits.{back}
-use Rattle.transform.specs.Passes.{Rows}
+use Rattle.transform.specs.InnerPasses.{Rows}
 use Rattle.transform.proofs.Turns.{rows-turn}
 use Rattle.transform.proofs.exact.rows.Statement.{statement}
 use Rattle.transform.proofs.exact.rows.Tie as tie

@@ -9,7 +9,7 @@ use mir.Syntax.{w32}
 use mir.Val.{SFits, toZ}
 use mir.Facts.{toZ-ofZ}
 use Rattle.ints.proofs.Fits.{read, back, cast-pos, fits, within-abs}
-use Rattle.transform.specs.Passes.{exactAt}
+use Rattle.transform.specs.InnerPasses.{exactAt}
 use Rattle.transform.proofs.exact.scale_small.Statement.{statement}
 use Rattle.transform.proofs.exact.scale_small.Tie as tie
 

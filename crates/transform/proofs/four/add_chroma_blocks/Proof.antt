@@ -5,8 +5,9 @@ use native.Mathlib.Omega.{arith}
 use Prim.Native.Nat.{_+_, _*_}
 use lib.IntN.{pos}
 use lib.ListN.{getD}
-use Rattle.transform.specs.Residual.{placed, residual, chromaResidual}
-use Rattle.transform.specs.Four.{addedFour}
+use Rattle.transform.specs.Residual.{placed, residual}
+use Rattle.transform.specs.InnerResidual.{chromaResidual}
+use Rattle.transform.specs.InnerFour.{addedFour}
 use Rattle.transform.proofs.Tables.{chroma-entry}
 use Rattle.transform.proofs.four.add_chroma_blocks.Statement.{statement}
 use Rattle.transform.proofs.four.add_chroma_blocks.Tie as tie

@@ -7,7 +7,8 @@ use lib.IntN.{pos}
 use lib.ListN.{getD}
 use mir.Syntax.{w32}
 use Rattle.ints.proofs.Fits.{back}
-use Rattle.transform.specs.Residual.{noLevels, residual}
+use Rattle.transform.specs.InnerResidual.{noLevels}
+use Rattle.transform.specs.Residual.{residual}
 use Rattle.transform.specs.Added.{added}
 use Rattle.transform.proofs.Square.{inside-high, four-added}
 use Rattle.transform.proofs.four.add_chroma_dc_blocks.Statement.{statement}

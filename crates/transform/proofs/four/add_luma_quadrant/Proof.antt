@@ -6,8 +6,9 @@ use native.Mathlib.Omega.{arith}
 use Prim.Native.Nat.{_+_, _*_}
 use lib.IntN.{pos}
 use lib.ListN.{getD}
-use Rattle.transform.specs.Residual.{placed, residual, lumaResidual}
-use Rattle.transform.specs.Four.{addedFour}
+use Rattle.transform.specs.Residual.{placed, residual}
+use Rattle.transform.specs.InnerResidual.{lumaResidual}
+use Rattle.transform.specs.InnerFour.{addedFour}
 use Rattle.transform.proofs.Tables.{entry}
 use Rattle.transform.proofs.four.add_luma_quadrant.Statement.{statement}
 use Rattle.transform.proofs.four.add_luma_quadrant.Tie as tie

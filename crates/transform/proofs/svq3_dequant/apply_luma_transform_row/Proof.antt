@@ -4,7 +4,7 @@ use mir.Syntax.{w32}
 use Rattle.ints.specs.Z.{satZ}
 use Rattle.ints.proofs.Fits.{signed, back, via}
 use Rattle.ints.proofs.Same.{reads}
-use Rattle.transform.specs.Arrays.{dot}
+use Rattle.transform.specs.InnerArrays.{dot}
 use Rattle.transform.proofs.svq3_dequant.apply_luma_transform_row.Statement.{statement}
 use Rattle.transform.proofs.svq3_dequant.apply_luma_transform_row.Tie as tie
 

@@ -9,7 +9,7 @@ use Rattle.ints.specs.Z.{clampZ}
 use Rattle.ints.proofs.Fits.{signed, fits, read, back, via, within-clamp, within-lit}
 use Rattle.ints.proofs.Same.{reads}
 use Rattle.transform.specs.Residual.{rounded}
-use Rattle.transform.specs.Arrays.{short}
+use Rattle.transform.specs.InnerArrays.{short}
 use Rattle.transform.proofs.svq3_dequant.finish.Statement.{statement}
 use Rattle.transform.proofs.svq3_dequant.finish.Tie as tie
 

@@ -8,9 +8,9 @@ use mir.Syntax.{w16, w32}
 use mir.Val.{toZ, ofZ}
 use mir.Facts.{toZ-ofZ}
 use Rattle.ints.proofs.Fits.{back}
-use Rattle.picture.specs.Rows.{row}
+use Rattle.picture.specs.InnerRows.{row}
 use Rattle.transform.specs.Residual.{placed, rounded}
-use Rattle.transform.specs.Arrays.{listed, short, shortened, finished}
+use Rattle.transform.specs.InnerArrays.{listed, short, shortened, finished}
 use Rattle.transform.proofs.Laws.{fill-more}
 use Rattle.transform.proofs.svq3_dequant.finish_block.Statement.{statement}
 use Rattle.transform.proofs.svq3_dequant.finish_block.Tie as tie

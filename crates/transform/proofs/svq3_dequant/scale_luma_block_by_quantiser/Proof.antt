@@ -6,10 +6,10 @@ use lib.IntN.{pos}
 use lib.ListN.{replicate}
 use mir.Syntax.{w32}
 use Rattle.ints.proofs.Fits.{back}
-use Rattle.picture.specs.Rows.{row}
+use Rattle.picture.specs.InnerRows.{row}
 use Rattle.transform.specs.Residual.{placed, scaled}
 use Rattle.transform.specs.ChromaDc.{scaledAt}
-use Rattle.transform.specs.Arrays.{listed}
+use Rattle.transform.specs.InnerArrays.{listed}
 use Rattle.transform.proofs.Laws.{fill-more}
 use Rattle.transform.proofs.svq3_dequant.scale_luma_block_by_quantiser.Statement.{statement}
 use Rattle.transform.proofs.svq3_dequant.scale_luma_block_by_quantiser.Tie as tie

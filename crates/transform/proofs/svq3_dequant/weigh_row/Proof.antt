@@ -4,7 +4,7 @@ use borrow.Author.Needs.{needs}
 use mir.Syntax.{w32}
 use mir.Facts.{toZ-ofZ}
 use Rattle.ints.proofs.Fits.{back}
-use Rattle.transform.specs.Arrays.{dot, dotRow}
+use Rattle.transform.specs.InnerArrays.{dot, dotRow}
 use Rattle.transform.proofs.svq3_dequant.weigh_row.Statement.{statement}
 use Rattle.transform.proofs.svq3_dequant.weigh_row.Tie as tie
 

@@ -8,9 +8,9 @@ use lib.ListN.{length, getD, length-set}
 use mir.Syntax.{w16}
 use Rattle.ints.specs.Z.{clip1Z}
 use Rattle.ints.proofs.Fits.{read, back}
-use Rattle.picture.specs.Rows.{row}
+use Rattle.picture.specs.InnerRows.{row}
 use Rattle.picture.proofs.Laws.{row-more, row-other}
-use Rattle.transform.specs.Arrays.{raisedAt}
+use Rattle.transform.specs.InnerArrays.{raisedAt}
 use Rattle.transform.proofs.svq3_pred.add_row.Statement.{statement}
 use Rattle.transform.proofs.svq3_pred.add_row.Tie as tie
 

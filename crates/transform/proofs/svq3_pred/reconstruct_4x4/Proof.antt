@@ -4,7 +4,7 @@ use Prim.Native.Nat.{_≤_, _+_, _-_, _*_}
 use native.Mathlib.Omega.{arith}
 use denote.Ref.{now}
 use lib.ListN.{length}
-use Rattle.picture.specs.Rows.{rows}
+use Rattle.picture.specs.InnerRows.{rows}
 use Rattle.picture.proofs.Laws.{rows-painted, Row, inside-row}
 use Rattle.transform.specs.Residual.{placed}
 use Rattle.transform.specs.Added.{raised, added}

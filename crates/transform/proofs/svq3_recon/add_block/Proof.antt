@@ -5,7 +5,7 @@ use native.Mathlib.Omega.{arith}
 use mir.Facts.{toZ-ofZ}
 use Rattle.transform.specs.Residual.{placed, residual}
 use Rattle.transform.specs.Added.{added}
-use Rattle.transform.specs.Arrays.{Short}
+use Rattle.transform.specs.InnerArrays.{Short}
 use Rattle.transform.proofs.Laws.{short-listed, added-listed}
 use Rattle.transform.proofs.svq3_recon.add_block.Statement.{statement}
 use Rattle.transform.proofs.svq3_recon.add_block.Tie as tie

@@ -7,7 +7,7 @@ use mir.Val.{SFits}
 use borrow.Author.Needs.{needs}
 use Rattle.ints.specs.Z.{floorZ}
 use Rattle.ints.proofs.Fits.{read, signed, back}
-use Rattle.vectors.specs.Samples.{unitsInSample}
+use Rattle.vectors.specs.InnerSamples.{unitsInSample}
 use Rattle.vectors.proofs.Moves.{field-read, units-size, converted}
 use Rattle.vectors.proofs.svq3_frame.convert_predictor.Statement.{statement}
 use Rattle.vectors.proofs.svq3_frame.convert_predictor.Tie as tie

@@ -6,7 +6,7 @@ use lib.IntN.{pos}
 use lib.ListN.{length}
 use denote.Ref.{now}
 use Rattle.picture.specs.Picture.{always, filled}
-use Rattle.picture.specs.Rows.{rows}
+use Rattle.picture.specs.InnerRows.{rows}
 use Rattle.picture.proofs.Laws.{Row, inside-row, rows-more, rows-painted}
 use Rattle.vectors.specs.Stored.{pairOf, storedVectors, storedMarks}
 use Rattle.vectors.proofs.Storing.{pairs-more, pairs-inside}

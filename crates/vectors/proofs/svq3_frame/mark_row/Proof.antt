@@ -4,7 +4,7 @@ use Prim.Native.Nat.{_≤_, _-_}
 use native.Mathlib.Omega.{arith}
 use lib.ListN.{length, length-set}
 use Rattle.picture.specs.Picture.{always}
-use Rattle.picture.specs.Rows.{row}
+use Rattle.picture.specs.InnerRows.{row}
 use Rattle.picture.proofs.Laws.{row-more}
 use Rattle.vectors.proofs.svq3_frame.mark_row.Statement.{statement}
 use Rattle.vectors.proofs.svq3_frame.mark_row.Tie as tie

@@ -3,7 +3,7 @@ use mathlib.Core.Path.{_≡_, refl}
 use Prim.Native.Nat.{_+_, _-_, _≤_}
 use native.Mathlib.Omega.{arith}
 use lib.ListN.{getD}
-use Rattle.picture.specs.Rows.{row}
+use Rattle.picture.specs.InnerRows.{row}
 use Rattle.picture.proofs.Laws.{row-more}
 use Rattle.vectors.proofs.window.copy_marks.Statement.{statement}
 use Rattle.vectors.proofs.window.copy_marks.Tie as tie

@@ -3,9 +3,9 @@ use mathlib.Core.Path.{_≡_, refl, _∙_}
 use Prim.Native.Nat.{ℕ, _+_, _-_, _*_, _<_, _≤_}
 use native.Mathlib.Omega.{arith}
 use borrow.Author.Count.{below-none, below-more}
-use Rattle.picture.specs.Field.{fieldOf}
+use Rattle.picture.specs.InnerField.{fieldOf}
 use Rattle.vectors.specs.Predict.{cellAt, aboveLeftOf}
-use Rattle.vectors.specs.Window.{Window}
+use Rattle.vectors.specs.InnerWindow.{Window}
 use Rattle.vectors.proofs.window.load_cells.Statement.{statement}
 use Rattle.vectors.proofs.window.load_cells.Tie as tie
 

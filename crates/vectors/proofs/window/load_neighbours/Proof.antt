@@ -6,9 +6,9 @@ use native.Mathlib.Omega.{arith}
 use borrow.Author.Count.{below-more}
 use borrow.Author.Tests.{ltb-true}
 use Rattle.picture.proofs.Laws.{inside-row, both-true}
-use Rattle.picture.specs.Field.{fieldOf}
+use Rattle.picture.specs.InnerField.{fieldOf}
 use Rattle.vectors.specs.Predict.{cellAt, aboveLeftOf}
-use Rattle.vectors.specs.Window.{Window}
+use Rattle.vectors.specs.InnerWindow.{Window}
 use Rattle.vectors.proofs.window.load_neighbours.Statement.{statement}
 use Rattle.vectors.proofs.window.load_neighbours.Tie as tie
 

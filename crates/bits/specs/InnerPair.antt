@@ -5,7 +5,8 @@ use mathlib.Core.List.{List}
 use Prim.Native.Nat.{ℕ}
 use lib.IntN.{ℤ}
 use lib.ListN.{drop}
-use Rattle.bits.specs.Signed.{signedCode, signedAnswer}
+use Rattle.bits.specs.Signed.{signedCode}
+use Rattle.bits.specs.InnerSigned.{signedAnswer}
 use Rattle.bits.specs.declared.svq3_mv.SignedAnswer.{SignedAnswer}
 use Rattle.bits.specs.declared.svq3_mv.SignedAnswer.the-variants.{Value, Refused}
 use Rattle.bits.specs.declared.pair.PairAnswer.{PairAnswer}

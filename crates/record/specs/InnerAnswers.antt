@@ -5,7 +5,7 @@ use mathlib.Core.List.{List}
 use Prim.Native.Nat.{ℕ}
 use lib.IntN.{ℤ}
 use Rattle.refusal.specs.Got.{Got, got}
-use Rattle.levels.specs.Levels.{listAnswer}
+use Rattle.levels.specs.InnerLevels.{listAnswer}
 use Rattle.levels.specs.declared.svq3_coeff.ListAnswer.{ListAnswer}
 
 -- the answer of a reader that started at a place, and the levels that it leaves, which are said where it ends

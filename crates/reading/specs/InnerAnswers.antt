@@ -6,9 +6,9 @@ use Prim.Native.Nat.{ℕ, _+_, _/_, _≤_}
 use lib.IntN.{ℤ}
 use Rattle.refusal.specs.Got.{Got, got, refused}
 use Rattle.vectors.specs.Modes.{partitionWidth, partitionHeight}
-use Rattle.picture.specs.Field.{fieldOf}
-use Rattle.vectors.specs.Window.{Follows}
-use Rattle.picture.specs.Picture.{Within}
+use Rattle.picture.specs.InnerField.{fieldOf}
+use Rattle.vectors.specs.InnerWindow.{Follows}
+use Rattle.picture.specs.InnerPicture.{Within}
 use Rattle.record.specs.Record.{Record}
 use Rattle.state.specs.State.{Context}
 use Rattle.reading.specs.Read.{Moving}

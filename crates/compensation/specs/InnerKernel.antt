@@ -9,7 +9,7 @@ use lib.Dec.{eqb}
 use lib.IntN.{ℤ, pos, negsuc, natAbs, _+ℤ_}
 use lib.ListN.{getD}
 use Rattle.ints.specs.Z.{if_then_else_, clampZ}
-use Rattle.picture.specs.Rows.{run}
+use Rattle.picture.specs.InnerRows.{run}
 use Rattle.compensation.specs.Formula.{formula}
 use Rattle.compensation.specs.declared.kernel.Mix.{Mix}
 

@@ -10,7 +10,8 @@ use lib.Seq.{sets}
 use Rattle.ints.specs.Z.{if_then_else_}
 use Rattle.refusal.specs.Got.{Got, got, refused}
 use Rattle.levels.specs.Book.{positions}
-use Rattle.levels.specs.Levels.{zeros, block, listAnswer}
+use Rattle.levels.specs.Levels.{zeros, block}
+use Rattle.levels.specs.InnerLevels.{listAnswer}
 use Rattle.levels.specs.declared.svq3_coeff.ResidualBook.{ResidualBook}
 use Rattle.levels.specs.declared.svq3_coeff.ListAnswer.{ListAnswer}
 use Rattle.record.specs.Items.{itemCoded, itemCount, itemPlace, readItem}

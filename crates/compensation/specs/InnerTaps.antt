@@ -9,7 +9,7 @@ use lib.Signed.{leZ}
 use Rattle.ints.specs.Z.{floorZ, modZ}
 use Rattle.picture.specs.declared.Size.{Size}
 use Rattle.compensation.specs.Formula.{formula}
-use Rattle.compensation.specs.Kernel.{extra, originOf, windowBlock}
+use Rattle.compensation.specs.InnerKernel.{extra, originOf, windowBlock}
 use Rattle.compensation.specs.declared.svq3_mc.Taps.{Taps}
 
 -- the block at (x, y) with the vector (vx, vy)

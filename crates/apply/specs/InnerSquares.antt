@@ -6,9 +6,9 @@ use lib.IntN.{ℤ, pos}
 use lib.ListN.{getD}
 use Rattle.ints.specs.Z.{if_then_else_}
 use Rattle.transform.specs.Tables.{chromaCoeff}
-use Rattle.transform.specs.Residual.{lumaResidual, chromaResidual}
+use Rattle.transform.specs.InnerResidual.{lumaResidual, chromaResidual}
 use Rattle.transform.specs.ChromaDc.{chromaDc}
-use Rattle.transform.specs.Four.{addedFour}
+use Rattle.transform.specs.InnerFour.{addedFour}
 use Rattle.levels.specs.Pattern.{quadrantCoded}
 use Rattle.record.specs.declared.Head.{Head}
 

@@ -2,7 +2,7 @@
 -- Assumes nothing.
 use mathlib.Core.Path.{_≡_}
 use mathlib.Core.List.{List}
-use Prim.Native.Nat.{ℕ, _+_}
+use Prim.Native.Nat.{ℕ}
 use Rattle.refusal.specs.Got.{Got, got, refused}
 use Rattle.record.specs.Record.{Record}
 use Rattle.transcript.specs.Records.{records}

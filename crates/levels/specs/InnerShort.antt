@@ -3,7 +3,7 @@
 use mathlib.Core.List.{List}
 use Prim.Native.Nat.{ℕ, _/_, _%_}
 use lib.IntN.{ℤ, pos, _-ℤ_}
-use Rattle.levels.specs.Entries.{normalScan, chromaDc}
+use Rattle.levels.specs.InnerEntries.{normalScan, chromaDc}
 use Rattle.levels.specs.declared.svq3_coeff.ResidualBook.{ResidualBook}
 use Rattle.levels.specs.declared.svq3_coeff.ResidualBook.the-variants.{NormalScan, ChromaDc}
 

@@ -4,7 +4,7 @@ use mathlib.Core.Path.{_≡_}
 use mathlib.Core.List.{List}
 use Prim.Native.Nat.{ℕ, _+_, _*_, _/_, _%_, _<_}
 use lib.ListN.{getD}
-use Rattle.compensation.specs.Kernel.{mixedTaps}
+use Rattle.compensation.specs.InnerKernel.{mixedTaps}
 use Rattle.compensation.specs.declared.kernel.Mix.{Mix}
 
 -- where lane k of a tile of w columns lies, past the place of lane 0, in rows that are `stride` long
