@@ -4,12 +4,12 @@ use mathlib.Core.Path.{_≡_, refl, ap, _∙_}
 use mathlib.Core.Bool.{Bool, true, false}
 use mathlib.Core.List.{List}
 use Prim.Native.Nat.{ℕ, zero, suc, _+_, _*_, _/_, _≤_, _<_}
-use native.Mathlib.Nat.{mul-le-mul-right, mul-pos, le-trans, mul-assoc, mul-left-comm, div-one}
+use native.Mathlib.Nat.{mul-le-mul-right, le-trans, mul-assoc, mul-left-comm, div-one}
 use native.Mathlib.Numerals.{add-one}
 use native.Mathlib.Omega.{arith}
 use lib.Dec.{lit≤, lit<}
 use lib.IntN.{ℤ, pos, negsuc, _+ℤ_}
-use lib.ListN.{length, getD}
+use lib.ListN.{length}
 use Rattle.ints.specs.Z.{towardZero, floorZ, modZ}
 use Rattle.picture.specs.Painted.{Inside}
 use Rattle.picture.specs.InnerBlock.{BlockIn, blockPainted}

@@ -156,7 +156,7 @@ pub fn extra_of(px: u32, py: u32) -> usize
     1
 }
 
-// Whole samples: rows that are copied, of a width w that the compiler may know.
+// Whole samples: rows that are copied. The width is a number of its own, so that it can be a literal.
 fn copy_rows(dst: &mut [u8], src: &[u8], b: Block, w: usize, stride: usize, from: usize)
     requires { ⌜ w ≡ b .w ⌝ }
     requires { ⌜ Span (b .w) (b .h) × BlockIn b (length (now dst)) × (from + (b .h - 1) * stride + b .w ≤ length (now src)) ⌝ }

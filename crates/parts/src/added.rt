@@ -1,5 +1,4 @@
 // The residuals added to samples, kinds 19 and 20.
-ghost use mathlib.Core.Path.{_≡_};
 ghost use Prim.Native.Nat.{_+_, _*_, _≤_, _<_};
 ghost use lib.ListN.{length};
 use crate::bytes::signed_at;

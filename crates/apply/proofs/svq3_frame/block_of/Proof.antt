@@ -1,5 +1,5 @@
 -- `apply::svq3_frame::block_of` meets its contract.
-use mathlib.Core.Path.{_≡_, ap, _∙_}
+use mathlib.Core.Path.{ap, _∙_}
 use Prim.Native.Nat.{ℕ, _+_, _*_, _/_}
 use native.Mathlib.Omega.{arith}
 use Rattle.vectors.proofs.Partitions.{inside}

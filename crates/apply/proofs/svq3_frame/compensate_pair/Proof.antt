@@ -1,5 +1,5 @@
 -- `apply::svq3_frame::compensate_pair` meets its contract: both planes are moved by the same taps.
-use mathlib.Core.Path.{_≡_, refl}
+use mathlib.Core.Path.{refl}
 use mathlib.Core.Bool.{true}
 use Prim.Native.Nat.{_<_}
 use native.Mathlib.Omega.{arith}

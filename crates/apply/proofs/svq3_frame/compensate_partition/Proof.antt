@@ -1,5 +1,5 @@
 -- `apply::svq3_frame::compensate_partition` meets its contract: the partition lies inside the plane, and its samples are those of the definition.
-use mathlib.Core.Path.{_≡_, refl}
+use mathlib.Core.Path.{refl}
 use mathlib.Core.Bool.{false}
 use Prim.Native.Nat.{_<_}
 use native.Mathlib.Omega.{arith}

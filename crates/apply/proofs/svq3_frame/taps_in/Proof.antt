@@ -1,6 +1,6 @@
 -- `apply::svq3_frame::taps_in` meets its contract: place, spans and vector are those of the plane.
-use mathlib.Core.Path.{_≡_, refl, _∙_, ap}
-use Prim.Native.Nat.{_+_, _*_, _/_}
+use mathlib.Core.Path.{refl, _∙_, ap}
+use Prim.Native.Nat.{_+_, _*_}
 use native.Mathlib.Nat.{le-trans}
 use native.Mathlib.Omega.{arith}
 use lib.Dec.{lit≤}
@@ -9,7 +9,6 @@ use lib.ListN.{getD}
 use mir.Syntax.{w32}
 use mir.Val.{SFits}
 use mir.Facts.{toZ-ofZ}
-use borrow.Author.Needs.{needs}
 use Rattle.ints.proofs.Fits.{fits, back}
 use Rattle.ints.specs.Z.{towardZero}
 use Rattle.apply.specs.Moved.{unit}

@@ -1,5 +1,4 @@
 -- `compensation::tiles::mix_one` meets its contract: as `mix_block`, whatever the width.
-use mathlib.Core.Path.{_≡_}
 use borrow.Author.Needs.{needs}
 use borrow.Author.Tests.{eqb-true}
 use Rattle.picture.proofs.Laws.{both-true}
