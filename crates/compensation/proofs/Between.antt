@@ -76,11 +76,6 @@ pub sample-taps : (plane : List ℕ) (width height : ℕ) (p q : ℤ) → let x 
 unfolding sampleAt
 sample-taps plane width height p q = formula-taps (modZ p 6) (modZ q 6) _ _ _ _
 
--- at no phase the sample is its first tap, whatever the others
-pub formula-none : (a b c d : ℕ) → formula 0 0 a b c d ≡ a
-unfolding formula along if_then_else_
-formula-none a b c d = refl
-
 -- ---- what an accepted call leaves: sample c of row r, and what a refused one leaves
 module _ (out plane : List ℕ) (width height w h : ℕ) (x y vx vy : ℤ) where
   pub block-at : sidesFit 65536 width height (length plane) ≡ true → sidesFit 16 w h (length out) ≡ true → (r c : ℕ) → r < h → c < w → getD (blockOut out plane width height x y w h vx vy) (r * w + c) 0 ≡ blockSample plane width height x y vx vy r c

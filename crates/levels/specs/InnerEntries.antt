@@ -1,4 +1,4 @@
--- The look-ups of short codes, by the seven bits there, of which the first is 0. What an entry says is specs/Short.antt of the crate residual.
+-- The look-ups of short codes, by the seven bits there, of which the first is 0. What an entry says is InnerShort.antt.
 -- Assumes nothing.
 use mathlib.Core.List.{List, [], _∷_}
 use Prim.Native.Nat.{ℕ}

@@ -53,7 +53,7 @@ fn precision_agrees(head: &[u8; 32], bits: &[u8], values: &[u8], at: usize, opti
 fn pattern_agrees(head: &[u8; 32], bits: &[u8], values: &[u8], at: usize) -> bool
     requires { ⌜ length (now bits) < 2 ^ 61 ⌝ }
 {
-    match residual::svq3_cbp::read_cbp_inter(bits, at) {
+    match levels::svq3_cbp::read_cbp_inter(bits, at) {
         CbpAnswer::Pattern(v, next) => accepted(head, next, values, 1)
             & number(values, 0, v as usize),
         CbpAnswer::Refused(r) => refused(head, r),
@@ -68,7 +68,7 @@ fn level_agrees(head: &[u8; 32], values: &[u8], at: usize, option: u32) -> bool 
     } else {
         ResidualBook::ChromaDc
     };
-    match residual::svq3_coeff::resolve_level_run(book, code) {
+    match levels::svq3_coeff::resolve_level_run(book, code) {
         LevelRun::Pair(level, run) => {
             accepted(head, at, values, 2)
                 & value(values, 0, level)
@@ -82,7 +82,7 @@ fn list_agrees(head: &[u8; 32], bits: &[u8], values: &[u8], at: usize, option: u
     requires { ⌜ length (now bits) < 2 ^ 61 ⌝ }
 {
     let mut levels = [0i32; 16];
-    match residual::svq3_coeff::decode_residual_4x4_normal(&mut levels, 0, bits, at, option % 2) {
+    match levels::svq3_coeff::decode_residual_4x4_normal(&mut levels, 0, bits, at, option % 2) {
         ListAnswer::End(next) => accepted(head, next, values, 16) & all_values(values, &levels, 16),
         ListAnswer::Refused(r) => refused(head, r),
     }
@@ -92,7 +92,7 @@ fn dc_agrees(head: &[u8; 32], bits: &[u8], values: &[u8], at: usize) -> bool
     requires { ⌜ length (now bits) < 2 ^ 61 ⌝ }
 {
     let mut levels = [0i32; 4];
-    match residual::svq3_coeff::decode_chroma_dc_2x2(&mut levels, 0, bits, at) {
+    match levels::svq3_coeff::decode_chroma_dc_2x2(&mut levels, 0, bits, at) {
         ListAnswer::End(next) => accepted(head, next, values, 4) & all_values(values, &levels, 4),
         ListAnswer::Refused(r) => refused(head, r),
     }

@@ -64,7 +64,7 @@ lists-length (suc n) i pattern levels =
     )
 
 -- 384 levels
-pub items-length : (pattern : ℕ) (levels : List ℤ) → length (itemsBytes 26 0 pattern levels) ≤ 1920
+items-length : (pattern : ℕ) (levels : List ℤ) → length (itemsBytes 26 0 pattern levels) ≤ 1920
 unfolding itemsBytes itemCount itemStart itemBook if_then_else_
 items-length pattern levels = lists-length 26 0 pattern levels
 

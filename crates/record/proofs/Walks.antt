@@ -82,7 +82,7 @@ rest-last {whole} {at} {p} (refused r) answer left g l =
     record { answers = l .answers ∙ rest-answer whole at p (refused r) g; leaves = λ xs k e. never (sym (g .is) ∙ e) }
 
 -- nothing is left
-pub rest-none : {whole : Got (List ℤ)} {at p : ℕ} {ls : List ℤ} → Rest whole at p (got ls 0) → Left at whole (End p) ls
+rest-none : {whole : Got (List ℤ)} {at p : ℕ} {ls : List ℤ} → Rest whole at p (got ls 0) → Left at whole (End p) ls
 rest-none {p = p} {ls = ls} g = rest-last (got ls 0) (End p) ls g (left-end p (got ls 0) p 0 ls refl (omega arith))
 
 -- what is read goes on as h has it

@@ -1,4 +1,4 @@
--- Where a run leaves the caller's place and quantiser; where one call leaves them is `cursorBy` of outcome.
+-- Where a run leaves the caller's place and quantiser; where one call leaves them is `cursorBy` of macroblock.
 -- Assumes nothing.
 use Rattle.state.specs.declared.Cursor.{Cursor}
 use Rattle.run.specs.declared.Report.{Report}

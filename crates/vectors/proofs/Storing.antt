@@ -112,7 +112,7 @@ module _ (s x y w h r c : ℕ) (lc : c < s) where
   mark-at marks lt = painted-at s x y w h (always 1) marks (r * s + c) 0 lt ∙ rw cell-inside
 
   -- THE CELL afterwards: the vector where it belongs to the partition, and else what it was
-  pub stored-cell : (vx vy : ℤ) (mv : List ℤ) (marks : List ℕ) → length mv ≡ 2 * length marks → r * s + c < length marks
+  stored-cell : (vx vy : ℤ) (mv : List ℤ) (marks : List ℕ) → length mv ≡ 2 * length marks → r * s + c < length marks
       → cellAt (storedVectors mv s x y w h vx vy) (storedMarks marks s x y w h) (r * s + c) ≡ cond belongs (Here (vector vx vy)) (cellAt mv marks (r * s + c))
   unfolding cellAt pairOf if_then_else_
   stored-cell vx vy mv marks twice lt =
