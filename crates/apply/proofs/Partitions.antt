@@ -19,7 +19,7 @@ use Rattle.picture.proofs.Laws.{macroblock-inside, painted-length}
 use Rattle.compensation.specs.Formula.{formula}
 use Rattle.compensation.specs.InnerKernel.{originOf, windowBlock}
 use Rattle.compensation.specs.InnerBlock.{Whole, Span}
-use Rattle.compensation.specs.Taps as taps
+use Rattle.compensation.specs.InnerTaps as taps
 use Rattle.compensation.proofs.Taps.{placed-block}
 use Rattle.vectors.specs.Modes.{partitionWidth, partitionHeight, numMotionVectors, offsetX, offsetY}
 use Rattle.vectors.proofs.Partitions.{cut, inside, inside-units}

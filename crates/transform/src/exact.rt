@@ -7,7 +7,7 @@ ghost use lib.IntN.{pos, natAbs, _*ℤ_};
 ghost use lib.ListN.{length, getD};
 ghost use Rattle.transform.specs.Residual.{placed, rounded};
 ghost use Rattle.transform.specs.InnerArrays.{listed};
-ghost use Rattle.transform.specs.Passes.{
+ghost use Rattle.transform.specs.InnerPasses.{
   Small,
   sumsOf,
   allWithin,
