@@ -56,14 +56,14 @@ fn agrees(state: &mut [u8], reference: &mut [u8; 2400], head: &[u8; 80]) -> bool
     }
 }
 
-// The next record. One with no head has kind 0 and differs.
+// The next record. One whose head is not whole differs.
 fn take_record(state: &mut [u8], reference: &mut [u8; 2400]) -> Turn
     ensures { λ r. ⌜ (r .accepted ≤ 1) × (r .refused ≤ 1) × (r .runs ≤ 1) × (r .stopped ≤ 1) × (r .replays ≤ 1) × (r .differ ≤ 1) ⌝ }
 {
     let mut head = [0u8; 80];
-    fill(&mut head, 80);
+    let whole = fill(&mut head, 80);
     let same = agrees(state, reference, &head);
-    counted(&head, same)
+    counted(&head, whole & same)
 }
 
 fn print_count(count: u64, words: &[u8]) {

@@ -94,17 +94,17 @@ fn take_question(samples: &[u8], plane: Plane, head: &[u8; 32]) -> bool {
     false
 }
 
-// The next record. One with no head has kind 0 and differs.
+// The next record. One whose head is not whole differs.
 fn take_record(samples: &mut [u8], plane: Plane) -> Turn
     ensures { λ r. ⌜ (r .bits ≤ 1) × (r .samples ≤ 1) × (r .differ ≤ 1) ⌝ }
 {
     let mut head = [0u8; 32];
-    fill(&mut head, 32);
-    if head[0] == 16 {
+    let whole = fill(&mut head, 32);
+    if whole & (head[0] == 16) {
         return take_plane(samples, &head);
     }
     let same = take_question(samples, plane, &head);
-    counted(&head, plane, same)
+    counted(&head, plane, whole & same)
 }
 
 fn print_counts(bits: u64, samples: u64, differ: u64) {
