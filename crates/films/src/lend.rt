@@ -3,14 +3,14 @@ ghost use Prim.Native.Nat.{_≤_};
 ghost use lib.ListN.{length};
 use crate::bytes::short_at;
 use crate::decoded;
+use crate::lent::lent_of;
+use crate::lent::same_state;
+use crate::lent::unpack;
 use crate::ran;
 use crate::replayed;
 use crate::slices::copy;
 use crate::slices::put_pattern;
 use crate::slices::within;
-use crate::state::lent_of;
-use crate::state::same_state;
-use crate::state::unpack;
 
 // Whether what that kind of record asks for is answered as the head says.
 fn answered(

@@ -5,11 +5,11 @@ mod compare;
 mod decoded;
 mod head;
 mod lend;
+mod lent;
 mod ran;
 mod replayed;
 mod slices;
 mod start;
-mod state;
 
 ghost use Prim.Native.Nat.{_≤_, _<_};
 use crate::bytes::fill;

@@ -1,10 +1,10 @@
--- `films::state::copy_vectors` is safe, and ends.
+-- `films::lent::copy_vectors` is safe, and ends.
 use native.Mathlib.Omega.{arith}
 use Prim.Native.Nat.{_≤_, _-_}
 use mathlib.Core.Path.{refl, _≡_}
 use lib.ListN.{length-set, length}
-use Rattle.films.proofs.state.copy_vectors.Statement.{statement}
-use Rattle.films.proofs.state.copy_vectors.Tie as tie
+use Rattle.films.proofs.lent.copy_vectors.Statement.{statement}
+use Rattle.films.proofs.lent.copy_vectors.Tie as tie
 
 abbrev Inv-loop : tie.InvT-loop
 Inv-loop mv₀ state i₀ mv i = (i ≤ length mv) × (length mv ≡ length mv₀)

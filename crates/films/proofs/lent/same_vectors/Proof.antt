@@ -1,9 +1,9 @@
--- `films::state::same_vectors` is safe, and ends.
+-- `films::lent::same_vectors` is safe, and ends.
 use native.Mathlib.Omega.{arith}
 use Prim.Native.Nat.{_≤_, _-_}
 use lib.ListN.{length}
-use Rattle.films.proofs.state.same_vectors.Statement.{statement}
-use Rattle.films.proofs.state.same_vectors.Tie as tie
+use Rattle.films.proofs.lent.same_vectors.Statement.{statement}
+use Rattle.films.proofs.lent.same_vectors.Tie as tie
 
 abbrev Inv-loop : tie.InvT-loop
 Inv-loop mv state i₀ i = i ≤ length mv
