@@ -1,4 +1,4 @@
-// A macroblock that is no skip.
+// A macroblock decoded into the picture, the vectors, the marks and the transcript.
 ghost use mathlib.Core.Path.{_≡_};
 ghost use Prim.Native.Nat.{_<_, _-_};
 ghost use Rattle.macroblock.specs.Decode.{asked, decoded};
@@ -17,8 +17,8 @@ use state::ask_call;
 use transcript::write::put_coded;
 use transcript::write::put_skip;
 
-// Read, then written and applied.
-pub fn decode_coded(
+// A macroblock that is no skip: read, then written and applied.
+fn decode_coded(
     y: &mut [u8],
     cb: &mut [u8],
     cr: &mut [u8],

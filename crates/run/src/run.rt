@@ -1,4 +1,4 @@
-// The calls of a list, one after another, until one is refused.
+// The run of a list: its calls, one after another, until one is refused.
 ghost use mathlib.Core.Path.{_≡_};
 ghost use Rattle.macroblock.specs.Entry.{stateBefore, stateAfter};
 ghost use Rattle.run.specs.InnerLeft.{Listed, callsLeft};
