@@ -22,9 +22,9 @@ use Rattle.transform.proofs.Square.{four-added}
 use Rattle.levels.specs.Pattern.{classOf, quadrantCoded}
 use Rattle.levels.proofs.ShortTable.{at}
 use Rattle.record.specs.declared.Head.{Head}
-use Rattle.record.specs.Items.{itemCoded, itemCount, itemPlace, itemLevels}
-use Rattle.record.specs.Range.{ListsRange, ItemRange}
-use Rattle.record.proofs.ListKinds.{is-luma, is-dc, is-ac}
+use Rattle.levels.specs.Items.{itemCoded, itemCount, itemPlace, itemLevels, ListsRange}
+use Rattle.record.specs.Range.{ItemRange}
+use Rattle.levels.proofs.ListKinds.{is-luma, is-dc, is-ac}
 use Rattle.apply.specs.Blocks.{cellOfBlock, lumaUpTo, dcOf, chromaUpTo}
 use Rattle.apply.specs.InnerSquares.{quadrantAdded, squareAdded}
 

@@ -11,7 +11,7 @@ use Rattle.transform.specs.Residual.{placed, residual}
 use Rattle.transform.specs.ChromaDc.{chromaDc}
 use Rattle.transform.specs.Added.{added}
 use Rattle.levels.specs.Pattern.{classOf}
-use Rattle.record.specs.Items.{itemCoded, itemPlace}
+use Rattle.levels.specs.Items.{itemCoded, itemPlace}
 use Rattle.record.specs.declared.Head.{Head}
 
 -- ---- the residual of the coded luma blocks among the first n

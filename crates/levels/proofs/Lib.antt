@@ -16,3 +16,12 @@ pub mod Reading
 pub mod Ranges
 pub mod Answers
 pub mod Examples
+pub mod ItemAnswers
+pub mod ItemFormats
+pub mod Left
+pub mod ListKinds
+pub mod Lists
+pub mod Sets
+pub mod Sides
+pub mod Turns
+pub mod Walks

@@ -8,3 +8,8 @@ pub mod InnerEntries
 pub mod InnerLevels
 pub mod InnerPattern
 pub mod InnerShort
+pub mod InnerAnswers
+pub mod InnerItems
+pub mod InnerLeft
+pub mod InnerSides
+pub mod Items

@@ -22,7 +22,7 @@ use Rattle.run.specs.Calls.{callIn}
 use Rattle.run.specs.InnerCalls.{callAnswer}
 use Rattle.run.specs.declared.calls.CallAnswer.the-variants as one
 use Rattle.run.proofs.Listing.{call-answered, call-refused}
-use Rattle.record.proofs.Turns.{when-true, when-false}
+use Rattle.levels.proofs.Turns.{when-true, when-false}
 use Rattle.printing.specs.Header.{ranged, headerIn, callsFrom}
 use Rattle.printing.specs.InnerHeader.{headerAnswer, listEnd}
 use Rattle.printing.specs.declared.header.Header.{Header}

@@ -17,7 +17,7 @@ use Rattle.refusal.proofs.Formats.{got-value, got-count, never}
 use Rattle.refusal.proofs.Local.{Local, of-format, of-got, of-refused, then-local, map-local, apart}
 use Rattle.number.specs.Number.{readNumber}
 use Rattle.number.proofs.Numbers.{number-format}
-use Rattle.record.proofs.Sets.{drop-of-take}
+use Rattle.levels.proofs.Sets.{drop-of-take}
 use Rattle.refusal.proofs.Lists.{mapped, untilAll, until-end, until-first}
 use Rattle.state.specs.declared.Call.{Call}
 use Rattle.run.specs.Calls.{callIn, callsIn, calls}

@@ -28,10 +28,10 @@ use Rattle.levels.proofs.Ranges.{Refuses, cut, long, past, block-refuses}
 use Rattle.vectors.specs.Modes.{numMotionVectors}
 use Rattle.vectors.specs.Precision.{bothFlags, oneFlag, precision}
 use Rattle.vectors.specs.declared.svq3_mb.Svq3MvPrecision.{Svq3MvPrecision}
-use Rattle.record.specs.Record.{Record, noLevels, skipRecord}
-use Rattle.record.specs.Items.{itemCoded, itemBook, itemStart, itemPlace, readLists, readItems}
+use Rattle.record.specs.Record.{Record, skipRecord}
+use Rattle.levels.specs.Items.{noLevels, itemCoded, itemBook, itemStart, itemPlace, readLists, readItems}
 use Rattle.record.specs.Write.{recordBytes}
-use Rattle.record.proofs.ListKinds.{start-fits}
+use Rattle.levels.proofs.ListKinds.{start-fits}
 use Rattle.record.proofs.Lengths.{record-length, head-range}
 use Rattle.state.specs.Questions.{thenAsk, gridRight, planesRight, stateRight, referenceThere, callRight, placeIn, askStart, askQuantiser, askPlace, askRest, askCall, askRun}
 use Rattle.state.specs.declared.Call.{Call}

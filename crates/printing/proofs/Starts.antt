@@ -7,7 +7,7 @@ use native.Mathlib.Nat.{mul-le-mul}
 use native.Mathlib.Omega.{arith}
 use lib.IntN.{ℤ, pos}
 use lib.ListN.{length, take, replicate, length-replicate}
-use Rattle.record.proofs.Sets.{part-of-same}
+use Rattle.levels.proofs.Sets.{part-of-same}
 use Rattle.state.specs.State.{State}
 use Rattle.macroblock.specs.Entry.{stateOf}
 use Rattle.state.specs.declared.Frame.{Frame}

@@ -14,7 +14,7 @@ use Rattle.vectors.specs.Modes.{numMotionVectors}
 use Rattle.vectors.proofs.Precisions.{precision-format}
 use Rattle.vectors.specs.declared.svq3_mb.Svq3MvPrecision.{Svq3MvPrecision}
 use Rattle.state.specs.declared.Call.{Call}
-use Rattle.record.proofs.Blocks.{items-format}
+use Rattle.levels.proofs.ItemFormats.{items-format}
 use Rattle.state.specs.State.{Context}
 use Rattle.reading.specs.Read.{Moving, moved, readVectors, quantiserIn, readQuantiser, recordOf, atFirst, readResidual, readCoded, readMacroblock}
 

@@ -16,8 +16,8 @@ use Rattle.vectors.specs.Modes.{partitionWidth, partitionHeight, numMotionVecto
 use Rattle.vectors.specs.Precision.{precision}
 use Rattle.vectors.specs.Predict.{cellAt, nearAt, leftOf, aboveOf, aboveLeftOf, medianOf, combined, predicted, heldIn, predictor}
 use Rattle.vectors.specs.Units.{roundToSixths, convertPredictor, summed, scaled, storedPart, clippedPart}
-use Rattle.record.specs.Record.{noVectors, noLevels}
-use Rattle.record.specs.Items.{itemCoded, readLists, readItems}
+use Rattle.record.specs.Record.{noVectors}
+use Rattle.levels.specs.Items.{noLevels, itemCoded, readLists, readItems}
 use Rattle.record.proofs.Examples.{printed}
 use Rattle.reading.specs.Read.{predictorAt, moved, readVectors, quantiserIn, readQuantiser, recordOf, atFirst, readResidual, readCoded, readMacroblock}
 use Rattle.reading.specs.InnerAnswers.{contextOf}

@@ -25,11 +25,11 @@ use Rattle.vectors.specs.declared.svq3_mb.Svq3MvPrecision.{Svq3MvPrecision}
 use Rattle.vectors.specs.declared.svq3_mb.PrecisionAnswer.the-variants as precise
 use Rattle.vectors.proofs.Answers.{precision-answered, precision-refused}
 use Rattle.state.specs.declared.Call.{Call}
-use Rattle.record.specs.Record.{Record, noLevels}
-use Rattle.record.specs.Items.{readItems}
-use Rattle.record.specs.InnerAnswers.{Left}
+use Rattle.record.specs.Record.{Record}
+use Rattle.levels.specs.Items.{noLevels, readItems}
+use Rattle.levels.specs.InnerAnswers.{Left}
 use Rattle.record.specs.declared.Head.{Head}
-use Rattle.record.proofs.Answers.{ended, refused-by}
+use Rattle.levels.proofs.ItemAnswers.{ended, refused-by}
 use Rattle.state.specs.State.{Context}
 use Rattle.reading.specs.Read.{Moving, readVectors, readQuantiser, recordOf, atFirst, readResidual, readCoded}
 use Rattle.reading.specs.InnerAnswers.{quantiserAnswer, readAnswer, Vectoring, Reading}

@@ -22,10 +22,11 @@ use Rattle.vectors.proofs.Precisions.{precision-format, of-number, number-most}
 use Rattle.vectors.proofs.Partitions.{num-most}
 use Rattle.vectors.specs.declared.svq3_mb.Svq3MvPrecision.{Svq3MvPrecision}
 use Rattle.state.specs.declared.Call.{Call}
-use Rattle.record.specs.Record.{Record, noVectors, noLevels, skipRecord}
-use Rattle.record.specs.Items.{readItems, itemsBits}
+use Rattle.record.specs.Record.{Record, noVectors, skipRecord}
+use Rattle.levels.specs.Items.{noLevels, readItems, itemsBits}
 use Rattle.record.specs.Range.{VectorsRange, CodedRange, RecordRange}
-use Rattle.record.proofs.Blocks.{items-format, said}
+use Rattle.record.proofs.Blocks.{said}
+use Rattle.levels.proofs.ItemFormats.{items-format}
 use Rattle.state.specs.State.{Context}
 use Rattle.reading.specs.Read.{Moving, readVectors, readQuantiser, recordOf, atFirst, readResidual, readCoded, readMacroblock}
 use Rattle.reading.specs.Bits.{callOf, vectorBits, quantiserBits, codedBits, bitsOf}

@@ -16,7 +16,7 @@ use Rattle.vectors.specs.Difference.{differenceOf}
 use Rattle.vectors.specs.declared.svq3_mb.Svq3MvPrecision.{Svq3MvPrecision}
 use Rattle.state.specs.declared.Call.{Call}
 use Rattle.record.specs.Record.{Record}
-use Rattle.record.specs.Items.{itemsBits}
+use Rattle.levels.specs.Items.{itemsBits}
 use Rattle.state.specs.State.{Context}
 use Rattle.reading.specs.Read.{predictorAt, storedAt}
 

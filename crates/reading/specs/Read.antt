@@ -22,8 +22,8 @@ use Rattle.vectors.specs.Stored.{storedField}
 use Rattle.vectors.specs.declared.svq3_mb.Svq3MvPrecision.{Svq3MvPrecision}
 use Rattle.vectors.specs.declared.svq3_frame.Vector.{Vector}
 use Rattle.state.specs.declared.Call.{Call}
-use Rattle.record.specs.Record.{Record, noVectors, noLevels, skipRecord}
-use Rattle.record.specs.Items.{readItems}
+use Rattle.record.specs.Record.{Record, noVectors, skipRecord}
+use Rattle.levels.specs.Items.{noLevels, readItems}
 use Rattle.state.specs.State.{Context}
 
 -- ---- the vectors, partition by partition

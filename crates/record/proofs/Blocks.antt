@@ -19,18 +19,10 @@ use Rattle.levels.specs.declared.svq3_coeff.ResidualBook.the-variants.{NormalSc
 use Rattle.levels.proofs.Blocks.{block-format, ac-block}
 use Rattle.levels.proofs.Books.{most}
 use Rattle.levels.proofs.Ranges.{block-most}
-use Rattle.record.specs.Record.{noLevels}
-use Rattle.record.specs.Items.{itemBook, itemStart, itemCount, itemLevels, readItems, itemsBits}
-use Rattle.record.specs.Range.{ListsRange, ItemsRange, ItemRange, I32s}
-use Rattle.record.proofs.ListKinds.{by-kind, is-luma, is-dc, is-ac, start-fits}
-use Rattle.record.proofs.Lists.{lists-format}
-
--- THE LISTS of a macroblock's bits, for each pattern
-pub items-format : (pattern : ℕ) → Format (readItems 26 0 pattern noLevels) (itemsBits 26 0 pattern) (ItemsRange pattern)
-unfolding readItems itemsBits itemCount
-items-format pattern =
-    lists-format (λ i. block (itemBook i) (itemStart i)) (λ i. blockBits (itemBook i) (itemStart i)) (λ i. BlockRange (itemBook i) (itemStart i))
-    (λ i. block-format (itemBook i) (itemStart i) (le-of-lt (start-fits i))) (λ i xs r. r .count) pattern
+use Rattle.levels.specs.Items.{noLevels, itemBook, itemStart, itemCount, itemLevels, readItems, itemsBits, ListsRange, ItemsRange}
+use Rattle.record.specs.Range.{ItemRange, I32s}
+use Rattle.levels.proofs.ListKinds.{by-kind, is-luma, is-dc, is-ac, start-fits}
+use Rattle.levels.proofs.Lists.{lists-format}
 
 -- ---- what bits can say is any i32
 narrow : (z : ℤ) (m : ℕ) → natAbs z ≤ m → m < 2 ^ 31 → mag z < 2 ^ 31

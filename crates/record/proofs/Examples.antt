@@ -13,8 +13,8 @@ use Rattle.number.specs.Number.{groups, number, lowThen, readNumber}
 use Rattle.number.specs.SignedNumber.{sent, received, signedNumber, readSigned}
 use Rattle.levels.specs.Pattern.{quadrantCoded}
 use Rattle.vectors.specs.Modes.{numMotionVectors}
-use Rattle.record.specs.Record.{Record, skipRecord, noVectors, noLevels}
-use Rattle.record.specs.Items.{itemCoded, itemBook, itemStart, itemCount, itemPlace, itemLevels, readLists, writeLists}
+use Rattle.record.specs.Record.{Record, skipRecord, noVectors}
+use Rattle.levels.specs.Items.{noLevels, itemCoded, itemBook, itemStart, itemCount, itemPlace, itemLevels, readLists, writeLists}
 use Rattle.record.specs.Write.{signedNumbers, itemBytes, itemsBytes, restBytes, recordBytes}
 use Rattle.record.specs.Parse.{field, readSigneds, parseItem, parseItems, parseResidual, parseMotion, parseRecord}
 

@@ -18,14 +18,13 @@ use Rattle.number.specs.SignedNumber.{SignedNumberRange}
 use Rattle.number.proofs.Numbers.{number-format}
 use Rattle.number.proofs.SignedNumbers.{signed-format}
 use Rattle.levels.specs.Levels.{zeros}
-use Rattle.record.specs.Record.{noLevels}
-use Rattle.record.specs.Items.{itemStart, itemCount}
+use Rattle.levels.specs.Items.{noLevels, itemStart, itemCount, ListsRange}
 use Rattle.record.specs.Write.{signedNumbers, itemBytes, itemsBytes}
 use Rattle.record.specs.Parse.{field, readSigneds, parseItem, parseItems}
-use Rattle.record.specs.Range.{I32s, ListsRange, ItemRange}
-use Rattle.record.proofs.Turns.{restated, unwritten, tested, followed}
-use Rattle.record.proofs.ListKinds.{start-fits}
-use Rattle.record.proofs.Lists.{lists-format}
+use Rattle.record.specs.Range.{I32s, ItemRange}
+use Rattle.levels.proofs.Turns.{restated, unwritten, tested, followed}
+use Rattle.levels.proofs.ListKinds.{start-fits}
+use Rattle.levels.proofs.Lists.{lists-format}
 
 -- ---- a number with a limit
 pub field-format : (most : ℕ) → most < 2 ^ 32 → Format (field most) number (λ v. v ≤ most)

@@ -18,9 +18,9 @@ use Rattle.number.proofs.Numbers.{lt-or-le, zero-or-more, one-group, more-group
 use Rattle.number.proofs.SignedNumbers.{signed-length, signed-bytes}
 use Rattle.vectors.specs.Modes.{numMotionVectors}
 use Rattle.record.specs.Record.{Record, skipRecord}
-use Rattle.record.specs.Items.{itemCoded, itemBook, itemStart, itemCount, itemPlace, itemLevels, writeLists}
+use Rattle.levels.specs.Items.{itemCoded, itemBook, itemStart, itemCount, itemPlace, itemLevels, writeLists, ListsRange}
 use Rattle.record.specs.Write.{signedNumbers, itemBytes, itemsBytes, restBytes, recordBytes}
-use Rattle.record.specs.Range.{I32s, ListsRange, ItemRange, CodedRange, RecordRange, HeadRange}
+use Rattle.record.specs.Range.{I32s, ItemRange, CodedRange, RecordRange, HeadRange}
 use Rattle.record.proofs.Padded.{used-most, to-numbers}
 
 -- ---- lengths

@@ -1,14 +1,7 @@
-pub mod Turns
-pub mod Sets
-pub mod ListKinds
-pub mod Lists
 pub mod Blocks
 pub mod Fields
 pub mod Padded
 pub mod Records
 pub mod Lengths
-pub mod Answers
-pub mod Walks
-pub mod Sides
-pub mod Left
 pub mod Examples
+pub mod SideBytes

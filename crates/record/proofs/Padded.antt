@@ -18,7 +18,7 @@ use Rattle.levels.proofs.ShortTable.{at}
 use Rattle.vectors.specs.Modes.{numMotionVectors}
 use Rattle.record.specs.Record.{noVectors}
 use Rattle.record.specs.Range.{I32s, VectorsRange}
-use Rattle.record.proofs.Sets.{take-through, drop-sets, drop-of-same}
+use Rattle.levels.proofs.Sets.{take-through, drop-sets, drop-of-same}
 use Rattle.record.proofs.Fields.{Signeds}
 
 -- a record uses at most 32

@@ -18,12 +18,13 @@ use Rattle.refusal.proofs.Formats.{injective, renamed}
 use Rattle.number.specs.Number.{number, NumberRange}
 use Rattle.number.proofs.Numbers.{number-format}
 use Rattle.vectors.specs.Modes.{numMotionVectors}
-use Rattle.record.specs.Record.{Record, noVectors, noLevels, placeHead, withMotion, withResidual, skipRecord}
+use Rattle.record.specs.Record.{Record, noVectors, placeHead, withMotion, withResidual, skipRecord}
+use Rattle.levels.specs.Items.{noLevels, ListsRange}
 use Rattle.record.specs.Write.{signedNumbers, itemsBytes, restBytes, recordBytes}
 use Rattle.record.specs.Parse.{parseItems, parseResidual, parseMotion, parseRecord}
-use Rattle.record.specs.Range.{ListsRange, ItemRange, CodedRange, RecordRange}
+use Rattle.record.specs.Range.{ItemRange, CodedRange, RecordRange}
 use Rattle.record.specs.declared.Head.{Head}
-use Rattle.record.proofs.Turns.{not-both, restated, unwritten, chosen, tested, followed}
+use Rattle.levels.proofs.Turns.{not-both, restated, unwritten, chosen, tested, followed}
 use Rattle.record.proofs.Padded.{used-most, put-first, from-numbers, to-numbers}
 use Rattle.record.proofs.Fields.{Signeds, field-format, signeds-format, levels-format}
 

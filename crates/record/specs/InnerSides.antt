@@ -1,21 +1,12 @@
--- Lists of one kind that stand side by side: contracts of inner functions. proofs/Sides.antt ties them to specs/Items.antt.
+-- The bytes of lists of one kind that stand side by side. proofs/SideBytes.antt ties them to Write.antt.
 -- Assumes nothing.
-use mathlib.Core.Bool.{Bool}
 use mathlib.Core.List.{List, [], _++_}
 use Prim.Native.Nat.{ℕ, zero, suc, _+_, _-_}
 use lib.IntN.{ℤ}
 use lib.ListN.{take, drop}
-use lib.Seq.{sets}
-use Rattle.refusal.specs.Got.{Got, got, andThen}
 use Rattle.levels.specs.Book.{positions}
-use Rattle.levels.specs.Levels.{block}
 use Rattle.levels.specs.declared.svq3_coeff.ResidualBook.{ResidualBook}
 use Rattle.record.specs.Write.{signedNumbers}
-
--- n lists of a book, each from position `start` on, are read and put side by side from a place on
-unfoldable pub readSide : ResidualBook → ℕ → ℕ → ℕ → List ℤ → List Bool → Got (List ℤ)
-readSide book start zero place levels s = got levels 0
-readSide book start (suc n) place levels s = andThen (block book start s) s (λ found rest. readSide book start n (place + positions book) (sets levels place found) rest)
 
 -- their bytes
 unfoldable pub sideBytes : ResidualBook → ℕ → ℕ → ℕ → List ℤ → List ℕ

@@ -1,10 +1,6 @@
 pub mod Record
-pub mod Items
 pub mod Write
 pub mod Parse
 pub mod Range
-pub mod InnerAnswers
-pub mod InnerItems
-pub mod InnerLeft
 pub mod InnerRecord
 pub mod InnerSides

@@ -13,8 +13,8 @@ use Rattle.number.specs.Number.{readNumber}
 use Rattle.number.specs.SignedNumber.{readSigned}
 use Rattle.levels.specs.Levels.{zeros}
 use Rattle.vectors.specs.Modes.{numMotionVectors}
-use Rattle.record.specs.Record.{Record, noVectors, noLevels, placeHead, withMotion, withResidual, skipRecord}
-use Rattle.record.specs.Items.{itemStart, itemCount, readLists}
+use Rattle.record.specs.Record.{Record, noVectors, placeHead, withMotion, withResidual, skipRecord}
+use Rattle.levels.specs.Items.{noLevels, itemStart, itemCount, readLists}
 use Rattle.record.specs.declared.Head.{Head}
 
 -- a number that is at most `most`

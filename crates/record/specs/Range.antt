@@ -1,31 +1,20 @@
 -- What a record may hold.
 -- Assumes nothing.
 use mathlib.Core.Path.{_≡_}
-use mathlib.Core.Bool.{true, false}
 use mathlib.Core.List.{List}
 use Prim.Native.Nat.{ℕ, _-_, _*_, _≤_, _<_}
 use lib.IntN.{ℤ, pos}
 use lib.ListN.{length, getD, take, drop}
 use Rattle.number.specs.SignedNumber.{SignedNumberRange}
-use Rattle.levels.specs.Levels.{zeros, BlockRange}
+use Rattle.levels.specs.Levels.{zeros}
 use Rattle.vectors.specs.Modes.{numMotionVectors}
 use Rattle.record.specs.Record.{Record, skipRecord}
 use Rattle.record.specs.declared.Head.{Head}
-use Rattle.record.specs.Items.{itemCoded, itemBook, itemStart, itemCount, itemLevels}
+use Rattle.levels.specs.Items.{itemStart, itemCount, ListsRange}
 
 -- each number is an i32
 abbrev pub I32s : List ℤ → Type 0
 I32s xs = (i : ℕ) → SignedNumberRange (getD xs i (pos 0))
-
--- 392 levels: each coded list is `fine`, the others are 0
-pub record ListsRange (fine : ℕ → List ℤ → Type 0) (pattern : ℕ) (levels : List ℤ) : Type 0 where
-  pub count : length levels ≡ 392
-  pub coded : (i : ℕ) → i < 26 → itemCoded pattern i ≡ true → fine i (itemLevels levels i)
-  pub others : (i : ℕ) → i < 26 → itemCoded pattern i ≡ false → itemLevels levels i ≡ zeros (itemCount i)
-
--- levels that a macroblock's bits can say
-abbrev pub ItemsRange : ℕ → List ℤ → Type 0
-ItemsRange = ListsRange (λ i. BlockRange (itemBook i) (itemStart i))
 
 -- one list of a record: any i32; 0 at place 0 of an AC list
 pub record ItemRange (i : ℕ) (xs : List ℤ) : Type 0 where

@@ -5,6 +5,7 @@ use Prim.Native.Nat.{ℕ}
 use lib.IntN.{ℤ, pos}
 use lib.ListN.{replicate}
 use Rattle.record.specs.declared.Head.{Head}
+use Rattle.levels.specs.Items.{noLevels}
 
 -- the numbers; each partition's vector in sixths, horizontal then vertical, then zeros, 32 numbers in all; the levels, each coded list at its place and zeros elsewhere, 392 in all
 pub record Record : Type 0 where
@@ -15,9 +16,6 @@ pub record Record : Type 0 where
 -- all zeros
 unfoldable pub noVectors : List ℤ
 noVectors = replicate 32 (pos 0)
-
-unfoldable pub noLevels : List ℤ
-noLevels = replicate 392 (pos 0)
 
 -- a head with its place and its mode alone
 abbrev pub placeHead : ℕ → ℕ → ℕ → Head

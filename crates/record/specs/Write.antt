@@ -10,7 +10,7 @@ use Rattle.number.specs.Number.{number}
 use Rattle.number.specs.SignedNumber.{signedNumber}
 use Rattle.vectors.specs.Modes.{numMotionVectors}
 use Rattle.record.specs.Record.{Record}
-use Rattle.record.specs.Items.{itemStart, writeLists}
+use Rattle.levels.specs.Items.{itemStart, writeLists}
 
 -- signed numbers one after another
 unfoldable pub signedNumbers : List ℤ → List ℕ

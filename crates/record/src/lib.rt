@@ -2,8 +2,6 @@
 ghost use mathlib.Core.Path.{_≡_};
 ghost use Rattle.record.specs.Record.{placeHead, withMotion, withResidual};
 
-pub mod items;
-
 // The numbers of a record. Its vectors and its levels stand beside it, in slices of 32 and 392 numbers.
 pub struct Head {
     pub column: u32,

@@ -24,8 +24,8 @@ use Rattle.picture.specs.Field.{Field}
 use Rattle.vectors.specs.Stored.{storedVectors, storedMarks, storedField}
 use Rattle.state.specs.declared.Call.{Call}
 use Rattle.record.specs.declared.Head.{Head}
-use Rattle.record.specs.Items.{itemCoded, itemPlace}
-use Rattle.record.proofs.ListKinds.{is-luma}
+use Rattle.levels.specs.Items.{itemCoded, itemPlace}
+use Rattle.levels.proofs.ListKinds.{is-luma}
 use Rattle.reading.specs.Read.{storedAt}
 use Rattle.apply.specs.Moved.{vectorX, vectorY, unit, partX, partY, movedBlock, movedOnce, movedUpTo}
 use Rattle.apply.specs.Blocks.{cellOfBlock, lumaUpTo, dcOf, chromaUpTo}

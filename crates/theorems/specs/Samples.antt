@@ -11,7 +11,7 @@ use Rattle.compensation.specs.Sample.{tap, sampleAt, sixths}
 use Rattle.transform.specs.Tables.{dequantCoeff, chromaCoeff}
 use Rattle.transform.specs.Residual.{placed, residual}
 use Rattle.levels.specs.Pattern.{classOf, quadrantCoded}
-use Rattle.record.specs.Items.{itemPlace}
+use Rattle.levels.specs.Items.{itemPlace}
 use Rattle.record.specs.Record.{Record}
 use Rattle.apply.specs.Moved.{vectorX, vectorY}
 use Rattle.apply.specs.Blocks.{dcOf}

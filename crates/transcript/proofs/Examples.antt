@@ -9,8 +9,8 @@ use Rattle.number.specs.Number.{lowThen, readNumber}
 use Rattle.number.specs.SignedNumber.{received, readSigned}
 use Rattle.levels.specs.Pattern.{quadrantCoded}
 use Rattle.vectors.specs.Modes.{numMotionVectors}
-use Rattle.record.specs.Record.{skipRecord, noVectors, noLevels}
-use Rattle.record.specs.Items.{itemCoded, readLists}
+use Rattle.record.specs.Record.{skipRecord, noVectors}
+use Rattle.levels.specs.Items.{noLevels, itemCoded, readLists}
 use Rattle.record.specs.Parse.{field, readSigneds, parseItems, parseResidual, parseMotion, parseRecord}
 use Rattle.refusal.specs.Until.{untilEnd}
 use Rattle.state.specs.Questions.{gridRight}

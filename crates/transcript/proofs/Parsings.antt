@@ -17,13 +17,14 @@ use Rattle.number.proofs.Answers.{number-answered, number-refused}
 use Rattle.levels.specs.declared.svq3_coeff.ListAnswer.{ListAnswer}
 use Rattle.levels.specs.declared.svq3_coeff.ListAnswer.the-variants as list
 use Rattle.vectors.specs.Modes.{numMotionVectors}
-use Rattle.record.specs.Record.{Record, noVectors, noLevels, withMotion, withResidual}
+use Rattle.record.specs.Record.{Record, noVectors, withMotion, withResidual}
+use Rattle.levels.specs.Items.{noLevels}
 use Rattle.record.specs.InnerRecord.{recordOf}
 use Rattle.record.specs.Parse.{field, readSigneds, parseItems, parseResidual, parseMotion}
-use Rattle.record.specs.InnerAnswers.{Left}
+use Rattle.levels.specs.InnerAnswers.{Left}
 use Rattle.record.specs.declared.Head.{Head}
 use Rattle.record.proofs.Fields.{field-format}
-use Rattle.record.proofs.Answers.{ended, refused-by}
+use Rattle.levels.proofs.ItemAnswers.{ended, refused-by}
 use Rattle.transcript.specs.InnerParsing.{parseAnswer, Parsing}
 use Rattle.transcript.specs.declared.parse.ParseAnswer.{ParseAnswer}
 use Rattle.transcript.specs.declared.parse.ParseAnswer.the-variants.{Parsed, Refused}

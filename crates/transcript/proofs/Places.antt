@@ -25,7 +25,7 @@ use Rattle.levels.proofs.Gots.{after-zero, after-after}
 use Rattle.record.specs.Record.{Record, placeHead, skipRecord}
 use Rattle.record.specs.Parse.{parseMotion, parseRecord}
 use Rattle.record.specs.declared.Head.{Head}
-use Rattle.record.proofs.Turns.{when-true, when-false}
+use Rattle.levels.proofs.Turns.{when-true, when-false}
 use Rattle.record.proofs.Records.{all-three}
 use Rattle.transcript.specs.InnerParsing.{placeAnswer, Parsing}
 use Rattle.transcript.specs.InnerPlace.{parsePlace}

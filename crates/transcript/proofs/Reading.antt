@@ -26,13 +26,13 @@ use Rattle.levels.specs.Levels.{zeros}
 use Rattle.levels.specs.declared.svq3_coeff.ListAnswer.{ListAnswer}
 use Rattle.levels.specs.declared.svq3_coeff.ListAnswer.the-variants as list
 use Rattle.levels.proofs.Gots.{after-zero, after-after, map-after, map-map}
-use Rattle.record.specs.Items.{itemStart, itemCount, itemPlace}
+use Rattle.levels.specs.Items.{itemStart, itemCount, itemPlace}
 use Rattle.record.specs.Parse.{field, readSigneds, parseItem}
-use Rattle.record.specs.InnerAnswers.{Left}
-use Rattle.record.proofs.Turns.{when-true, when-false}
-use Rattle.record.proofs.ListKinds.{start-most, start-in, is-luma, is-dc, is-ac}
+use Rattle.levels.specs.InnerAnswers.{Left}
+use Rattle.levels.proofs.Turns.{when-true, when-false}
+use Rattle.levels.proofs.ListKinds.{start-most, start-in, is-luma, is-dc, is-ac}
 use Rattle.record.proofs.Fields.{signeds-format}
-use Rattle.record.proofs.Answers.{left-end, left-refused}
+use Rattle.levels.proofs.ItemAnswers.{left-end, left-refused}
 
 -- ---- a number with a limit
 module _ (at most : ℕ) (s : List ℕ) where

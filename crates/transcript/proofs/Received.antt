@@ -16,8 +16,8 @@ use Rattle.number.specs.SignedNumber.{received, readSigned}
 use Rattle.number.proofs.Numbers.{lt-or-le, read-last}
 use Rattle.levels.specs.declared.svq3_coeff.ListAnswer.the-variants as list
 use Rattle.record.specs.Parse.{readSigneds}
-use Rattle.record.specs.InnerAnswers.{Left}
-use Rattle.record.proofs.Answers.{left-end}
+use Rattle.levels.specs.InnerAnswers.{Left}
+use Rattle.levels.proofs.ItemAnswers.{left-end}
 use Rattle.transcript.proofs.Sent.{both}
 use Rattle.transcript.specs.InnerReceived.{allShort, shortAt, Received}
 

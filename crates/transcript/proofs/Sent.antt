@@ -18,7 +18,7 @@ use Rattle.number.specs.Number.{number}
 use Rattle.number.specs.SignedNumber.{sent, signedNumber}
 use Rattle.number.proofs.Numbers.{lt-or-le, one-group}
 use Rattle.record.specs.Write.{signedNumbers}
-use Rattle.record.proofs.Sets.{sets-append}
+use Rattle.levels.proofs.Sets.{sets-append}
 use Rattle.transcript.specs.InnerWritten.{Written}
 use Rattle.transcript.specs.InnerSent.{heldOf, sentShort, allShort, Held}
 

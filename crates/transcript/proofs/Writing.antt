@@ -19,13 +19,14 @@ use Rattle.levels.specs.declared.svq3_coeff.ResidualBook.the-variants.{ChromaDc
 use Rattle.vectors.specs.Modes.{numMotionVectors}
 use Rattle.record.specs.Record.{Record, skipRecord}
 use Rattle.record.proofs.Lengths.{record-length}
-use Rattle.record.specs.Items.{writeLists}
+use Rattle.levels.specs.Items.{writeLists}
 use Rattle.record.specs.Write.{signedNumbers, itemBytes, itemsBytes, restBytes, recordBytes}
 use Rattle.record.specs.InnerSides.{sideBytes}
 use Rattle.transcript.specs.InnerWritten.{Written}
-use Rattle.record.proofs.Turns.{when-false}
-use Rattle.record.proofs.Sets.{sets-append}
-use Rattle.record.proofs.Sides.{write-parts, dc-side, ac-side, dc-place, no-class, some-class, side-written, side-unwritten}
+use Rattle.levels.proofs.Turns.{when-false}
+use Rattle.levels.proofs.Sets.{sets-append}
+use Rattle.levels.proofs.Sides.{write-parts, dc-side, ac-side, dc-place, no-class, some-class}
+use Rattle.record.proofs.SideBytes.{side-written, side-unwritten}
 
 -- ---- one part after another
 pub written-on : {out mid left : List ℕ} {at p next : ℕ} {a b : List ℕ} → Written out at a p mid → Written mid p b next left → Written out at (a ++ b) next left

@@ -26,8 +26,7 @@ use Rattle.vectors.specs.Predict.{vector, cellAt, nearAt, leftOf, aboveO
 use Rattle.vectors.specs.Stored.{storedField}
 use Rattle.vectors.proofs.Tests.{neither, same-test}
 use Rattle.vectors.proofs.Storing.{shown, FieldSized, near-stored}
-use Rattle.vectors.specs.InnerWindow.{Window, End, Sight, Seen, Part, pairSet, cornerPairs, cornerMarks}
-use Rattle.vectors.specs.InnerWindow.{first, last, on-left, on-right, above, corner}
+use Rattle.vectors.specs.InnerWindow.{Window, End, Sight, Seen, Part, pairSet, cornerPairs, cornerMarks, first, last, on-left, on-right, above, corner}
 use Rattle.vectors.specs.declared.svq3_frame.Near.{Near}
 use Rattle.vectors.specs.declared.svq3_frame.Near.the-variants.{Missing, Here}
 

@@ -6,7 +6,8 @@ use native.Mathlib.Omega.{arith}
 use lib.IntN.{ℤ}
 use denote.Ref.{now}
 use Rattle.picture.specs.InnerPicture.{Within}
-use Rattle.record.specs.Record.{noVectors, noLevels}
+use Rattle.record.specs.Record.{noVectors}
+use Rattle.levels.specs.Items.{noLevels}
 use Rattle.record.specs.InnerRecord.{recordOf}
 use Rattle.record.specs.Range.{RecordRange, HeadRange}
 use Rattle.record.specs.declared.Head.{Head}

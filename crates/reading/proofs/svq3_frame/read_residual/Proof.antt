@@ -3,8 +3,8 @@ use mathlib.Core.Path.{sym, ap, _∙_}
 use borrow.Author.Needs.{needs}
 use lib.ListN.{length}
 use Rattle.bits.specs.Bits.{bitList}
-use Rattle.record.proofs.Lists.{length-noLevels}
-use Rattle.record.proofs.Left.{items-left}
+use Rattle.levels.proofs.Lists.{length-noLevels}
+use Rattle.levels.proofs.Left.{items-left}
 use Rattle.reading.proofs.Readings.{no-pattern, no-quantiser, no-levels, with-levels}
 use Rattle.reading.proofs.svq3_frame.read_residual.Statement.{statement}
 use Rattle.reading.proofs.svq3_frame.read_residual.Tie as tie

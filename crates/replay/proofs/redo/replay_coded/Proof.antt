@@ -2,7 +2,8 @@
 use mathlib.Core.Path.{refl}
 use denote.Ref.{now}
 use Rattle.record.specs.InnerRecord.{recordOf}
-use Rattle.record.specs.Record.{noVectors, noLevels}
+use Rattle.record.specs.Record.{noVectors}
+use Rattle.levels.specs.Items.{noLevels}
 use Rattle.transcript.proofs.Places.{coded-read}
 use Rattle.state.specs.State.{State}
 use Rattle.macroblock.specs.Entry.{stateOf}

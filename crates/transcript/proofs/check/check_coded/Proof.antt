@@ -1,6 +1,7 @@
 -- `transcript::check::check_coded`: what `parse_motion` answers, without the numbers.
 use mathlib.Core.Path.{refl}
-use Rattle.record.specs.Record.{noVectors, noLevels}
+use Rattle.record.specs.Record.{noVectors}
+use Rattle.levels.specs.Items.{noLevels}
 use Rattle.transcript.proofs.Checks.{rest-read, rest-refused}
 use borrow.Author.Needs.{needs}
 use Rattle.transcript.proofs.check.check_coded.Statement.{statement}

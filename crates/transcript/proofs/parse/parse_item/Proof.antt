@@ -2,8 +2,8 @@
 use mathlib.Core.Path.{_∙_}
 use native.Mathlib.Omega.{arith}
 use lib.ListN.{length-set}
-use Rattle.record.proofs.ListKinds.{is-luma, is-dc, is-ac}
-use Rattle.record.proofs.Lists.{within}
+use Rattle.levels.proofs.ListKinds.{is-luma, is-dc, is-ac}
+use Rattle.levels.proofs.Lists.{within}
 use Rattle.transcript.proofs.Reading.{luma-stored, dc-stored, ac-stored}
 use borrow.Author.Needs.{needs}
 use Rattle.transcript.proofs.parse.parse_item.Statement.{statement}

@@ -5,7 +5,7 @@ use native.Mathlib.Omega.{arith}
 use borrow.Author.Needs.{needs}
 use lib.ListN.{length}
 use Rattle.record.specs.Parse.{parseItem, parseItems}
-use Rattle.record.proofs.Walks.{Going, begins, goes-on, stops, passes, ends}
+use Rattle.levels.proofs.Walks.{Going, begins, goes-on, stops, passes, ends}
 use Rattle.transcript.proofs.parse.parse_items.Statement.{statement}
 use Rattle.transcript.proofs.parse.parse_items.Tie as tie
 

@@ -3,7 +3,7 @@ use mathlib.Core.Path.{sym, ap, _∙_}
 use native.Mathlib.Omega.{arith}
 use lib.Dec.{lit<}
 use lib.ListN.{length}
-use Rattle.record.proofs.Lists.{length-noLevels}
+use Rattle.levels.proofs.Lists.{length-noLevels}
 use Rattle.transcript.proofs.Parsings.{field-most, no-pattern, no-quantiser, no-levels, with-levels}
 use borrow.Author.Needs.{needs}
 use Rattle.transcript.proofs.parse.parse_residual.Statement.{statement}

@@ -3,7 +3,8 @@ use mathlib.Core.Path.{sym, _∙_}
 use native.Mathlib.Omega.{arith}
 use borrow.Author.Needs.{needs}
 use lib.Dec.{lit<}
-use Rattle.record.proofs.Sides.{ac-side, ac-place, class-two, not-class-two, side-written, side-unwritten}
+use Rattle.levels.proofs.Sides.{ac-side, ac-place, class-two, not-class-two}
+use Rattle.record.proofs.SideBytes.{side-written, side-unwritten}
 use Rattle.transcript.proofs.Writing.{written-none, still-room, still-last, still-none, no-chroma-bytes, dc-fits, dc-still}
 use Rattle.transcript.proofs.write.put_chroma.Statement.{statement}
 use Rattle.transcript.proofs.write.put_chroma.Tie as tie

@@ -3,7 +3,8 @@ use mathlib.Core.Path.{sym, _∙_}
 use Prim.Native.Nat.{_*_}
 use native.Mathlib.Omega.{arith}
 use borrow.Author.Needs.{needs}
-use Rattle.record.proofs.Sides.{luma-side, luma-coded, luma-place, side-written, side-unwritten}
+use Rattle.levels.proofs.Sides.{luma-side, luma-coded, luma-place}
+use Rattle.record.proofs.SideBytes.{side-written, side-unwritten}
 use Rattle.transcript.proofs.Writing.{written-none}
 use Rattle.transcript.proofs.write.put_quadrant.Statement.{statement}
 use Rattle.transcript.proofs.write.put_quadrant.Tie as tie

@@ -1,16 +1,16 @@
--- `record::items::read_blocks`: the lists that are left, joined to those that were read, are the whole.
+-- `levels::items::read_blocks`: the lists that are left, joined to those that were read, are the whole.
 use mathlib.Core.Path.{_≡_, refl, _∙_}
 use Prim.Native.Nat.{_+_, _-_, _*_, _≤_}
 use native.Mathlib.Omega.{arith}
 use borrow.Author.Needs.{needs}
 use lib.ListN.{length, drop}
 use Rattle.bits.specs.Bits.{bitList}
 use Rattle.levels.specs.declared.svq3_coeff.ResidualBook.the-variants.{NormalScan}
-use Rattle.record.specs.InnerSides.{readSide}
-use Rattle.record.specs.InnerLeft.{leftSide}
-use Rattle.record.proofs.Left.{Goes, goes-all, side-on, side-stops, side-ends}
-use Rattle.record.proofs.items.read_blocks.Statement.{statement}
-use Rattle.record.proofs.items.read_blocks.Tie as tie
+use Rattle.levels.specs.InnerSides.{readSide}
+use Rattle.levels.specs.InnerLeft.{leftSide}
+use Rattle.levels.proofs.Left.{Goes, goes-all, side-on, side-stops, side-ends}
+use Rattle.levels.proofs.items.read_blocks.Statement.{statement}
+use Rattle.levels.proofs.items.read_blocks.Tie as tie
 
 abbrev Inv-loop : tie.InvT-loop
 Inv-loop levels₀ bits at place count start p₀ i₀ levels p i =

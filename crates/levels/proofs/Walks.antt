@@ -12,15 +12,15 @@ use lib.Seq.{sets, drop-drop}
 use Rattle.refusal.specs.Got.{Got, got, refused, after, andThen, mapGot}
 use Rattle.refusal.specs.declared.Refusal.{Refusal}
 use Rattle.refusal.proofs.Formats.{got-value, never}
 use Rattle.levels.specs.InnerLevels.{listAnswer, Decoded}
 use Rattle.levels.specs.declared.svq3_coeff.ListAnswer.{ListAnswer}
 use Rattle.levels.specs.declared.svq3_coeff.ListAnswer.the-variants.{End, Refused}
 use Rattle.levels.proofs.Gots.{after-zero, after-after}
-use Rattle.record.specs.Items.{itemCoded, itemPlace, readLists}
-use Rattle.record.specs.InnerItems.{Group}
-use Rattle.record.specs.InnerAnswers.{Left}
-use Rattle.record.proofs.Answers.{ended, refused-by, left-end, left-refused}
-use Rattle.record.proofs.Turns.{when-true, when-false}
+use Rattle.levels.specs.Items.{itemCoded, itemPlace, readLists}
+use Rattle.levels.specs.InnerItems.{Group}
+use Rattle.levels.specs.InnerAnswers.{Left}
+use Rattle.levels.proofs.ItemAnswers.{ended, refused-by, left-end, left-refused}
+use Rattle.levels.proofs.Turns.{when-true, when-false}
 
 -- a list that was read and stored at a place
 pub stored : (at room : ℕ) (read : Got (List ℤ)) (out : List ℤ) (place : ℕ) (answer : ListAnswer) (left : List ℤ) → Decoded at room read out place answer left → Left at (mapGot (sets out place) read) answer left

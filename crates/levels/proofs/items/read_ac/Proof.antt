@@ -1,11 +1,11 @@
--- `record::items::read_ac` reads the eight lists, or none.
+-- `levels::items::read_ac` reads the eight lists, or none.
 use mathlib.Core.Path.{sym, _∙_}
 use borrow.Author.Needs.{needs}
 use Rattle.bits.specs.Bits.{bitList}
-use Rattle.record.proofs.Sides.{ac-side, ac-place, class-two, not-class-two}
-use Rattle.record.proofs.Left.{side-leaves, side-passed}
-use Rattle.record.proofs.items.read_ac.Statement.{statement}
-use Rattle.record.proofs.items.read_ac.Tie as tie
+use Rattle.levels.proofs.Sides.{ac-side, ac-place, class-two, not-class-two}
+use Rattle.levels.proofs.Left.{side-leaves, side-passed}
+use Rattle.levels.proofs.items.read_ac.Statement.{statement}
+use Rattle.levels.proofs.items.read_ac.Tie as tie
 
 returns : tie.Need-returns
 returns c =

@@ -1,9 +1,9 @@
--- `record::items::item_place` answers `itemPlace`, by the kind of the list.
+-- `levels::items::item_place` answers `itemPlace`, by the kind of the list.
 use mathlib.Core.Path.{sym}
-use Rattle.record.proofs.ListKinds.{is-luma, is-dc, is-ac}
+use Rattle.levels.proofs.ListKinds.{is-luma, is-dc, is-ac}
 use borrow.Author.Needs.{needs}
-use Rattle.record.proofs.items.item_place.Statement.{statement}
-use Rattle.record.proofs.items.item_place.Tie as tie
+use Rattle.levels.proofs.items.item_place.Statement.{statement}
+use Rattle.levels.proofs.items.item_place.Tie as tie
 
 returns : tie.Need-returns
 returns c = sym (is-luma (c .before .args .i) (c .if1 .taken) .place)

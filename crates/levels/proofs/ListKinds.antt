@@ -8,12 +8,12 @@ use borrow.Author.Tests.{lt-ltb, le-ltb}
 use lib.Dec.{ltb, eqb, lit<}
 use Rattle.ints.specs.Z.{if_then_else_}
 use Rattle.number.proofs.Numbers.{lt-or-le}
 use Rattle.levels.specs.Book.{positions}
 use Rattle.levels.specs.Pattern.{classOf, quadrantCoded}
 use Rattle.levels.specs.declared.svq3_coeff.ResidualBook.{ResidualBook}
 use Rattle.levels.specs.declared.svq3_coeff.ResidualBook.the-variants.{NormalScan, ChromaDc}
-use Rattle.record.specs.Items.{itemCoded, itemBook, itemStart, itemCount, itemPlace}
-use Rattle.record.specs.InnerItems.{Group}
+use Rattle.levels.specs.Items.{itemCoded, itemBook, itemStart, itemCount, itemPlace}
+use Rattle.levels.specs.InnerItems.{Group}
 
 pub by-kind : {A : Type 0} (i : ℕ) → (i < 16 → A) → (16 ≤ i → i < 18 → A) → (18 ≤ i → A) → A
 by-kind i luma dc ac = ⊎-elim luma (λ (h : 16 ≤ i). ⊎-elim (dc h) ac (lt-or-le i 18)) (lt-or-le i 16)

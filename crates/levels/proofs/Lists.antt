@@ -14,13 +14,11 @@ use lib.Seq.{sets, length-sets, take-add, take-all, take-take, length-take-le}
 use Rattle.ints.specs.Z.{if_then_else_}
 use Rattle.refusal.specs.Got.{Got, got}
 use Rattle.refusal.specs.Format.{Format}
 use Rattle.levels.proofs.ShortTable.{at}
 use Rattle.levels.specs.Levels.{zeros}
-use Rattle.record.specs.Record.{noLevels}
-use Rattle.record.specs.Items.{itemCoded, itemBook, itemCount, itemPlace, itemLevels, readLists, writeLists}
-use Rattle.record.specs.Range.{ListsRange}
-use Rattle.record.proofs.Turns.{when-true, when-false, not-both, restated, unwritten, followed}
-use Rattle.record.proofs.Sets.{take-sets, drop-sets, take-through, same-more, part-after, part-of-same}
+use Rattle.levels.specs.Items.{noLevels, itemCoded, itemBook, itemCount, itemPlace, itemLevels, readLists, writeLists, ListsRange}
+use Rattle.levels.proofs.Turns.{when-true, when-false, not-both, restated, unwritten, followed}
+use Rattle.levels.proofs.Sets.{take-sets, drop-sets, take-through, same-more, part-after, part-of-same}
 
 -- ---- places
 rightPlace : ℕ → Bool

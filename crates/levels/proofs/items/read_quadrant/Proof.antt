@@ -1,12 +1,12 @@
--- `record::items::read_quadrant` reads the quadrant's four lists, or none.
+-- `levels::items::read_quadrant` reads the quadrant's four lists, or none.
 use mathlib.Core.Path.{sym, _∙_}
 use borrow.Author.Needs.{needs}
 use Prim.Native.Nat.{_*_}
 use Rattle.bits.specs.Bits.{bitList}
-use Rattle.record.proofs.Sides.{luma-side, luma-coded, luma-place}
-use Rattle.record.proofs.Left.{side-leaves, side-passed}
-use Rattle.record.proofs.items.read_quadrant.Statement.{statement}
-use Rattle.record.proofs.items.read_quadrant.Tie as tie
+use Rattle.levels.proofs.Sides.{luma-side, luma-coded, luma-place}
+use Rattle.levels.proofs.Left.{side-leaves, side-passed}
+use Rattle.levels.proofs.items.read_quadrant.Statement.{statement}
+use Rattle.levels.proofs.items.read_quadrant.Tie as tie
 
 returns : tie.Need-returns
 returns c =

@@ -1,15 +1,15 @@
--- `record::items::read_items`: what is still to be read, joined to what was read, is the whole.
+-- `levels::items::read_items`: what is still to be read, joined to what was read, is the whole.
 use mathlib.Core.Path.{_≡_, sym, _∙_}
 use Prim.Native.Nat.{_-_, _*_, _≤_}
 use native.Mathlib.Omega.{arith}
 use borrow.Author.Needs.{needs}
 use lib.ListN.{length, drop}
 use Rattle.bits.specs.Bits.{bitList}
-use Rattle.record.specs.Items.{readItems}
-use Rattle.record.specs.InnerLeft.{leftItems}
-use Rattle.record.proofs.Left.{Goes, goes-all, goes-last, quadrant-on, quadrant-stops}
-use Rattle.record.proofs.items.read_items.Statement.{statement}
-use Rattle.record.proofs.items.read_items.Tie as tie
+use Rattle.levels.specs.Items.{readItems}
+use Rattle.levels.specs.InnerLeft.{leftItems}
+use Rattle.levels.proofs.Left.{Goes, goes-all, goes-last, quadrant-on, quadrant-stops}
+use Rattle.levels.proofs.items.read_items.Statement.{statement}
+use Rattle.levels.proofs.items.read_items.Tie as tie
 
 abbrev Inv-loop : tie.InvT-loop
 Inv-loop levels₀ bits at pattern p₀ q₀ levels p q =

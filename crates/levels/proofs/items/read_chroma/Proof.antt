@@ -1,13 +1,13 @@
--- `record::items::read_chroma` reads chroma DC, then chroma AC unless chroma DC is refused.
+-- `levels::items::read_chroma` reads chroma DC, then chroma AC unless chroma DC is refused.
 use mathlib.Core.Path.{sym, _∙_}
 use borrow.Author.Needs.{needs}
 use Rattle.bits.specs.Bits.{bitList}
-use Rattle.record.specs.Items.{readItems}
-use Rattle.record.specs.InnerLeft.{leftItems}
-use Rattle.record.proofs.Sides.{dc-side, dc-place, some-class}
-use Rattle.record.proofs.Left.{goes-all, goes-last, side-leaves, items-on, items-stop, no-chroma}
-use Rattle.record.proofs.items.read_chroma.Statement.{statement}
-use Rattle.record.proofs.items.read_chroma.Tie as tie
+use Rattle.levels.specs.Items.{readItems}
+use Rattle.levels.specs.InnerLeft.{leftItems}
+use Rattle.levels.proofs.Sides.{dc-side, dc-place, some-class}
+use Rattle.levels.proofs.Left.{goes-all, goes-last, side-leaves, items-on, items-stop, no-chroma}
+use Rattle.levels.proofs.items.read_chroma.Statement.{statement}
+use Rattle.levels.proofs.items.read_chroma.Tie as tie
 
 returns : tie.Need-returns
 returns c =

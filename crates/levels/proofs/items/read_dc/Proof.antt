@@ -1,14 +1,14 @@
--- `record::items::read_dc` reads two lists, the second unless the first is refused.
+-- `levels::items::read_dc` reads two lists, the second unless the first is refused.
 use mathlib.Core.Path.{refl}
 use native.Mathlib.Omega.{arith}
 use borrow.Author.Needs.{needs}
 use Rattle.bits.specs.Bits.{bitList}
 use Rattle.levels.specs.declared.svq3_coeff.ResidualBook.the-variants.{ChromaDc}
-use Rattle.record.specs.InnerSides.{readSide}
-use Rattle.record.specs.InnerLeft.{leftSide}
-use Rattle.record.proofs.Left.{goes-all, side-on, side-stops, side-last}
-use Rattle.record.proofs.items.read_dc.Statement.{statement}
-use Rattle.record.proofs.items.read_dc.Tie as tie
+use Rattle.levels.specs.InnerSides.{readSide}
+use Rattle.levels.specs.InnerLeft.{leftSide}
+use Rattle.levels.proofs.Left.{goes-all, side-on, side-stops, side-last}
+use Rattle.levels.proofs.items.read_dc.Statement.{statement}
+use Rattle.levels.proofs.items.read_dc.Tie as tie
 
 returns : tie.Need-returns
 returns c =

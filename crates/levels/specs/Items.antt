@@ -1,19 +1,33 @@
--- The 26 lists of levels, in the order in which they are read and written: 16 luma blocks, four for each quadrant in bit order; Cb DC, Cr DC; four Cb blocks, four Cr blocks.
+-- A record: what one macroblock does to the state.
 -- Assumes nothing.
-use mathlib.Core.Bool.{Bool}
 use mathlib.Core.List.{List, [], _++_}
-use Prim.Native.Nat.{ℕ, zero, suc, _+_, _-_, _*_, _/_}
+use Prim.Native.Nat.{ℕ, _-_, _*_, _<_, zero, suc, _+_, _/_}
+use lib.IntN.{ℤ, pos}
+use lib.ListN.{replicate, length, take, drop}
+use mathlib.Core.Path.{_≡_}
+use mathlib.Core.Bool.{true, false, Bool}
+use Rattle.levels.specs.Levels.{zeros, BlockRange, block, blockBits}
 use lib.Dec.{eqb, ltb}
-use lib.IntN.{ℤ}
-use lib.ListN.{take, drop}
 use lib.Seq.{sets}
 use Rattle.ints.specs.Z.{if_then_else_}
 use Rattle.refusal.specs.Got.{Got, got, andThen}
 use Rattle.levels.specs.Book.{positions}
-use Rattle.levels.specs.Levels.{block, blockBits}
 use Rattle.levels.specs.Pattern.{classOf, quadrantCoded}
 use Rattle.levels.specs.declared.svq3_coeff.ResidualBook.{ResidualBook}
 use Rattle.levels.specs.declared.svq3_coeff.ResidualBook.the-variants.{NormalScan, ChromaDc}
+
+unfoldable pub noLevels : List ℤ
+noLevels = replicate 392 (pos 0)
+
+-- 392 levels: each coded list is `fine`, the others are 0
+pub record ListsRange (fine : ℕ → List ℤ → Type 0) (pattern : ℕ) (levels : List ℤ) : Type 0 where
+  pub count : length levels ≡ 392
+  pub coded : (i : ℕ) → i < 26 → itemCoded pattern i ≡ true → fine i (itemLevels levels i)
+  pub others : (i : ℕ) → i < 26 → itemCoded pattern i ≡ false → itemLevels levels i ≡ zeros (itemCount i)
+
+-- levels that a macroblock's bits can say
+abbrev pub ItemsRange : ℕ → List ℤ → Type 0
+ItemsRange = ListsRange (λ i. BlockRange (itemBook i) (itemStart i))
 
 -- a luma list by its quadrant, chroma DC from class 1 on, chroma AC at class 2
 unfoldable pub itemCoded : ℕ → ℕ → Bool

@@ -12,21 +12,21 @@ use lib.Seq.{sets, drop-drop}
 use Rattle.refusal.specs.Got.{Got, got, refused, after, andThen, mapGot}
 use Rattle.refusal.specs.declared.Refusal.{Refusal}
 use Rattle.refusal.proofs.Formats.{got-value, never}
 use Rattle.levels.specs.Book.{positions}
 use Rattle.levels.specs.Pattern.{classOf}
 use Rattle.levels.specs.Levels.{zeros, block}
 use Rattle.levels.specs.InnerLevels.{listAnswer, leftIn, Decoded}
 use Rattle.levels.specs.declared.svq3_coeff.ResidualBook.{ResidualBook}
 use Rattle.levels.specs.declared.svq3_coeff.ListAnswer.{ListAnswer}
 use Rattle.levels.specs.declared.svq3_coeff.ListAnswer.the-variants.{End, Refused}
-use Rattle.record.specs.Items.{itemCoded, itemCount, itemPlace, readLists, readItem, readItems}
-use Rattle.record.specs.InnerAnswers.{Left}
-use Rattle.record.specs.InnerSides.{readSide}
-use Rattle.record.specs.InnerLeft.{orStop, leftItems, leftSide, Leaves}
-use Rattle.record.proofs.Answers.{ended, refused-by}
-use Rattle.record.proofs.Turns.{when-true, when-false}
-use Rattle.record.proofs.Walks.{stored, Rest, rest-all, rest-is, rest-on, rest-stops, rest-answer, then-mapped, one-coded, one-passed}
-use Rattle.record.proofs.Sides.{Side, Kind, Coded, next-side, side-read, side-unread, read-parts, dc-side, ac-side, no-class}
+use Rattle.levels.specs.Items.{itemCoded, itemCount, itemPlace, readLists, readItem, readItems}
+use Rattle.levels.specs.InnerAnswers.{Left}
+use Rattle.levels.specs.InnerSides.{readSide}
+use Rattle.levels.specs.InnerLeft.{orStop, leftItems, leftSide, Leaves}
+use Rattle.levels.proofs.ItemAnswers.{ended, refused-by}
+use Rattle.levels.proofs.Turns.{when-true, when-false}
+use Rattle.levels.proofs.Walks.{stored, Rest, rest-all, rest-is, rest-on, rest-stops, rest-answer, then-mapped, one-coded, one-passed}
+use Rattle.levels.proofs.Sides.{Side, Kind, Coded, next-side, side-read, side-unread, read-parts, dc-side, ac-side, no-class}
 
 -- ---- behind a reading
 stop-after : (n : ℕ) (g : Got (List ℤ)) (s : List Bool) (stop : List ℤ) (k : List ℤ → List Bool → List ℤ) → orStop (after n g) s stop k ≡ orStop g (drop n s) stop k

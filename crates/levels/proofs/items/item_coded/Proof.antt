@@ -1,11 +1,11 @@
--- `record::items::item_coded` answers `itemCoded`, by the kind of the list.
+-- `levels::items::item_coded` answers `itemCoded`, by the kind of the list.
 use mathlib.Core.Path.{sym, ap, _∙_}
 use Prim.Native.Nat.{ℕ}
 use lib.Dec.{ltb, eqb}
-use Rattle.record.proofs.ListKinds.{is-luma, is-dc, is-ac}
+use Rattle.levels.proofs.ListKinds.{is-luma, is-dc, is-ac}
 use borrow.Author.Needs.{needs}
-use Rattle.record.proofs.items.item_coded.Statement.{statement}
-use Rattle.record.proofs.items.item_coded.Tie as tie
+use Rattle.levels.proofs.items.item_coded.Statement.{statement}
+use Rattle.levels.proofs.items.item_coded.Tie as tie
 
 returns : tie.Need-returns
 returns c = c .luma-quadrant-coded .ensures ∙ sym (is-luma (c .before .before .args .i) (c .before .if1 .taken) .coded (c .before .before .args .pattern))

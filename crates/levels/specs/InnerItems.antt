@@ -2,7 +2,7 @@
 -- Assumes nothing.
 use mathlib.Core.Path.{_≡_}
 use Prim.Native.Nat.{ℕ, _≤_, _<_}
-use Rattle.record.specs.Items.{itemCoded}
+use Rattle.levels.specs.Items.{itemCoded}
 
 -- each list from i on and before e is coded where list i is, and only there
 pub record Group (i e : ℕ) : Type 0 where

@@ -13,20 +13,19 @@ use lib.ListN.{take, drop}
 use lib.Seq.{sets, drop-drop}
 use Rattle.ints.specs.Z.{if_then_else_}
 use Rattle.refusal.specs.Got.{Got, got, refused, after, andThen, mapGot}
 use Rattle.levels.specs.Book.{positions}
 use Rattle.levels.specs.Levels.{block}
 use Rattle.levels.specs.Pattern.{classOf, quadrantCoded}
 use Rattle.levels.specs.declared.svq3_coeff.ResidualBook.{ResidualBook}
 use Rattle.levels.specs.declared.svq3_coeff.ResidualBook.the-variants.{NormalScan, ChromaDc}
 use Rattle.levels.proofs.Gots.{after-zero, after-after}
-use Rattle.record.specs.Items.{itemCoded, itemBook, itemStart, itemCount, itemPlace, itemLevels, readLists, writeLists, readItem, readItems}
-use Rattle.record.specs.Write.{signedNumbers, itemBytes, itemsBytes}
-use Rattle.record.specs.InnerSides.{readSide, sideBytes}
-use Rattle.record.proofs.Turns.{when-true, when-false}
-use Rattle.record.proofs.Sets.{drop-of-take}
-use Rattle.record.proofs.ListKinds.{is-luma, is-dc, is-ac, luma-group, dc-group, ac-group}
-use Rattle.record.proofs.Lists.{next-place}
-use Rattle.record.proofs.Walks.{one-coded, one-passed}
+use Rattle.levels.specs.Items.{itemCoded, itemBook, itemStart, itemCount, itemPlace, itemLevels, readLists, writeLists, readItem, readItems}
+use Rattle.levels.specs.InnerSides.{readSide}
+use Rattle.levels.proofs.Turns.{when-true, when-false}
+use Rattle.levels.proofs.Sets.{drop-of-take}
+use Rattle.levels.proofs.ListKinds.{is-luma, is-dc, is-ac, luma-group, dc-group, ac-group}
+use Rattle.levels.proofs.Lists.{next-place}
+use Rattle.levels.proofs.Walks.{one-coded, one-passed}
 
 -- ---- in parts: n lists, then m
 module _ {E : Type 0} where
@@ -107,7 +106,7 @@ module _ (pattern : ℕ) where
   none-read read zero i c ls s = refl
   none-read read (suc n) i c ls s = when-false (itemCoded pattern i) _ _ (c i (omega arith) (omega arith)) ∙ none-read read n (suc i) (λ j a b. c j (omega arith) (omega arith)) ls s
 
-  none-written : {E : Type 0} (write : ℕ → List ℤ → List E) (n i : ℕ) → Coded i (i + n) false → (ls : List ℤ) → writeLists write n i pattern ls ≡ []
+  pub none-written : {E : Type 0} (write : ℕ → List ℤ → List E) (n i : ℕ) → Coded i (i + n) false → (ls : List ℤ) → writeLists write n i pattern ls ≡ []
   unfolding writeLists
   none-written {E} write zero i c ls = refl
   none-written {E} write (suc n) i c ls =
@@ -132,20 +131,6 @@ module _ (book : ResidualBook) (start pattern : ℕ) where
       ∙ rw (here .0, here .1, ← p) (same-then (block book start s) s
       (λ xs t. all-read n (suc i) (omega arith) (λ j a b. k j (omega arith) (omega arith)) (λ j a b. c j (omega arith) (omega arith)) (place + positions book) (next-side i (i + suc n) place (omega arith) m k p) (sets ls place xs) t))
 
-  one-written : (i place : ℕ) → itemBook i ≡ book → itemStart i ≡ start → place ≡ itemPlace i → (ls : List ℤ) → itemBytes i (itemLevels ls i) ≡ signedNumbers (take (positions book - start) (drop (place + start) ls))
-  unfolding itemBytes itemLevels itemCount
-  one-written i place b z p ls =
-      rw (← b, ← z, p) (ap signedNumbers (drop-of-take (itemStart i) (positions (itemBook i)) (drop (itemPlace i) ls) ∙ ap (take (positions (itemBook i) - itemStart i)) (drop-drop (itemStart i) (itemPlace i) ls)))
-
-  all-written : (n i : ℕ) → i + n ≤ 26 → Kind i (i + n) → Coded pattern i (i + n) true → (place : ℕ) → place ≡ itemPlace i → (ls : List ℤ) → writeLists itemBytes n i pattern ls ≡ sideBytes book start n place ls
-  unfolding writeLists sideBytes
-  all-written zero i m k c place p ls = refl
-  all-written (suc n) i m k c place p ls =
-      let here = k i (omega arith) (omega arith) in
-      ap (λ (l : List ℕ). l ++ writeLists itemBytes n (suc i) pattern ls) (when-true (itemCoded pattern i) (itemBytes i (itemLevels ls i)) [] (c i (omega arith) (omega arith)) ∙ one-written i place (here .0) (here .1) p ls)
-      ∙ ap (λ (l : List ℕ). signedNumbers (take (positions book - start) (drop (place + start) ls)) ++ l)
-      (all-written n (suc i) (omega arith) (λ j a b. k j (omega arith) (omega arith)) (λ j a b. c j (omega arith) (omega arith)) (place + positions book) (next-side i (i + suc n) place (omega arith) m k p) ls)
-
 module _ {book : ResidualBook} {start n i : ℕ} (d : Side book start n i) (pattern : ℕ) where
   pub side-read : itemCoded pattern i ≡ true → (place : ℕ) → place ≡ itemPlace i → (ls : List ℤ) (s : List Bool) → readItems n i pattern ls s ≡ readSide book start n place ls s
   unfolding readItems
@@ -154,14 +139,6 @@ module _ {book : ResidualBook} {start n i : ℕ} (d : Side book start n i) (patt
   pub side-unread : itemCoded pattern i ≡ false → (ls : List ℤ) (s : List Bool) → readItems n i pattern ls s ≡ got ls 0
   unfolding readItems
   side-unread t = none-read pattern readItem n i (λ j a b. d .same pattern j a b ∙ t)
-
-  pub side-written : itemCoded pattern i ≡ true → (place : ℕ) → place ≡ itemPlace i → (ls : List ℤ) → itemsBytes n i pattern ls ≡ sideBytes book start n place ls
-  unfolding itemsBytes
-  side-written t = all-written book start pattern n i (d .most) (d .kind) (λ j a b. d .same pattern j a b ∙ t)
-
-  pub side-unwritten : itemCoded pattern i ≡ false → (ls : List ℤ) → itemsBytes n i pattern ls ≡ []
-  unfolding itemsBytes
-  side-unwritten t = none-written pattern itemBytes n i (λ j a b. d .same pattern j a b ∙ t)
 
 -- ---- the groups
 module _ (pattern : ℕ) where

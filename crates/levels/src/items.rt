@@ -3,16 +3,16 @@ ghost use mathlib.Core.Path.{_≡_};
 ghost use Prim.Native.Nat.{_+_, _*_, _≤_, _<_, _^_};
 ghost use lib.ListN.{length};
 ghost use Rattle.bits.specs.Bits.{bitList};
-ghost use Rattle.record.specs.Items.{itemCoded, itemPlace, readItems};
-ghost use Rattle.record.specs.InnerItems.{Group};
-ghost use Rattle.record.specs.InnerSides.{readSide};
-ghost use Rattle.record.specs.InnerLeft.{leftSide, leftItems, Leaves};
-use levels::svq3_cbp::chroma_class;
-use levels::svq3_cbp::luma_quadrant_coded;
-use levels::svq3_coeff::ListAnswer;
-use levels::svq3_coeff::ResidualBook;
-use levels::svq3_coeff::decode_chroma_dc_2x2;
-use levels::svq3_coeff::decode_residual_4x4_normal;
+ghost use Rattle.levels.specs.Items.{itemCoded, itemPlace, readItems};
+ghost use Rattle.levels.specs.InnerItems.{Group};
+ghost use Rattle.levels.specs.InnerSides.{readSide};
+ghost use Rattle.levels.specs.InnerLeft.{leftSide, leftItems, Leaves};
+use crate::svq3_cbp::chroma_class;
+use crate::svq3_cbp::luma_quadrant_coded;
+use crate::svq3_coeff::ListAnswer;
+use crate::svq3_coeff::ResidualBook;
+use crate::svq3_coeff::decode_chroma_dc_2x2;
+use crate::svq3_coeff::decode_residual_4x4_normal;
 
 // Lists 0 to 15 are luma blocks, 16 and 17 chroma DC, 18 to 25 chroma AC.
 pub fn item_coded(pattern: u8, i: usize) -> bool

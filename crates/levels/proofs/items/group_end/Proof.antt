@@ -1,9 +1,9 @@
--- `record::items::group_end`: the lists up to its answer are coded with list i, by the kind of the list.
+-- `levels::items::group_end`: the lists up to its answer are coded with list i, by the kind of the list.
 use mathlib.Core.Path.{refl}
 use borrow.Author.Needs.{needs}
-use Rattle.record.proofs.ListKinds.{luma-group, dc-group, ac-group}
-use Rattle.record.proofs.items.group_end.Statement.{statement}
-use Rattle.record.proofs.items.group_end.Tie as tie
+use Rattle.levels.proofs.ListKinds.{luma-group, dc-group, ac-group}
+use Rattle.levels.proofs.items.group_end.Statement.{statement}
+use Rattle.levels.proofs.items.group_end.Tie as tie
 
 returns : tie.Need-returns
 returns c = luma-group (c .before .args .i) _ (c .if1 .taken) refl

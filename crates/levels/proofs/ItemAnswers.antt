@@ -8,8 +8,8 @@ use lib.IntN.{ℤ}
 use Rattle.refusal.specs.Got.{Got, got, refused}
 use Rattle.refusal.specs.declared.Refusal.{Refusal}
 use Rattle.refusal.proofs.Formats.{got-value, never}
 use Rattle.levels.specs.declared.svq3_coeff.ListAnswer.the-variants.{End, Refused}
-use Rattle.record.specs.InnerAnswers.{Left}
+use Rattle.levels.specs.InnerAnswers.{Left}
 
 -- it ended: the levels read are those left, and the place moved by what they took
 pub record Ended (at : ℕ) (read : Got (List ℤ)) (next : ℕ) (left : List ℤ) : Type 0 where
