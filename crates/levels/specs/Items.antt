@@ -1,4 +1,4 @@
--- A record: what one macroblock does to the state.
+-- The 26 lists of levels, in the order in which they are read and written: 16 luma blocks, four for each quadrant in bit order; Cb DC, Cr DC; four Cb blocks, four Cr blocks.
 -- Assumes nothing.
 use mathlib.Core.List.{List, [], _++_}
 use Prim.Native.Nat.{ℕ, _-_, _*_, _<_, zero, suc, _+_, _/_}
@@ -15,19 +15,6 @@ use Rattle.levels.specs.Book.{positions}
 use Rattle.levels.specs.Pattern.{classOf, quadrantCoded}
 use Rattle.levels.specs.declared.svq3_coeff.ResidualBook.{ResidualBook}
 use Rattle.levels.specs.declared.svq3_coeff.ResidualBook.the-variants.{NormalScan, ChromaDc}
-
-unfoldable pub noLevels : List ℤ
-noLevels = replicate 392 (pos 0)
-
--- 392 levels: each coded list is `fine`, the others are 0
-pub record ListsRange (fine : ℕ → List ℤ → Type 0) (pattern : ℕ) (levels : List ℤ) : Type 0 where
-  pub count : length levels ≡ 392
-  pub coded : (i : ℕ) → i < 26 → itemCoded pattern i ≡ true → fine i (itemLevels levels i)
-  pub others : (i : ℕ) → i < 26 → itemCoded pattern i ≡ false → itemLevels levels i ≡ zeros (itemCount i)
-
--- levels that a macroblock's bits can say
-abbrev pub ItemsRange : ℕ → List ℤ → Type 0
-ItemsRange = ListsRange (λ i. BlockRange (itemBook i) (itemStart i))
 
 -- a luma list by its quadrant, chroma DC from class 1 on, chroma AC at class 2
 unfoldable pub itemCoded : ℕ → ℕ → Bool
@@ -75,3 +62,17 @@ readItems = readLists readItem
 
 unfoldable pub itemsBits : ℕ → ℕ → ℕ → List ℤ → List Bool
 itemsBits = writeLists (λ i. blockBits (itemBook i) (itemStart i))
+
+-- no level at all
+unfoldable pub noLevels : List ℤ
+noLevels = replicate 392 (pos 0)
+
+-- 392 levels: each coded list is `fine`, the others are 0
+pub record ListsRange (fine : ℕ → List ℤ → Type 0) (pattern : ℕ) (levels : List ℤ) : Type 0 where
+  pub count : length levels ≡ 392
+  pub coded : (i : ℕ) → i < 26 → itemCoded pattern i ≡ true → fine i (itemLevels levels i)
+  pub others : (i : ℕ) → i < 26 → itemCoded pattern i ≡ false → itemLevels levels i ≡ zeros (itemCount i)
+
+-- levels that a macroblock's bits can say
+abbrev pub ItemsRange : ℕ → List ℤ → Type 0
+ItemsRange = ListsRange (λ i. BlockRange (itemBook i) (itemStart i))

@@ -23,14 +23,14 @@ module _ (book : ResidualBook) (start pattern : ℕ) where
   one-written i place b z p ls =
       rw (← b, ← z, p) (ap signedNumbers (drop-of-take (itemStart i) (positions (itemBook i)) (drop (itemPlace i) ls) ∙ ap (take (positions (itemBook i) - itemStart i)) (drop-drop (itemStart i) (itemPlace i) ls)))
 
-  all-written : (n i : ℕ) → i + n ≤ 26 → Kind i (i + n) → Coded pattern i (i + n) true → (place : ℕ) → place ≡ itemPlace i → (ls : List ℤ) → writeLists itemBytes n i pattern ls ≡ sideBytes book start n place ls
+  all-written : (n i : ℕ) → i + n ≤ 26 → Kind book start pattern i (i + n) → Coded pattern i (i + n) true → (place : ℕ) → place ≡ itemPlace i → (ls : List ℤ) → writeLists itemBytes n i pattern ls ≡ sideBytes book start n place ls
   unfolding writeLists sideBytes
   all-written zero i m k c place p ls = refl
   all-written (suc n) i m k c place p ls =
       let here = k i (omega arith) (omega arith) in
       ap (λ (l : List ℕ). l ++ writeLists itemBytes n (suc i) pattern ls) (when-true (itemCoded pattern i) (itemBytes i (itemLevels ls i)) [] (c i (omega arith) (omega arith)) ∙ one-written i place (here .0) (here .1) p ls)
       ∙ ap (λ (l : List ℕ). signedNumbers (take (positions book - start) (drop (place + start) ls)) ++ l)
-      (all-written n (suc i) (omega arith) (λ j a b. k j (omega arith) (omega arith)) (λ j a b. c j (omega arith) (omega arith)) (place + positions book) (next-side i (i + suc n) place (omega arith) m k p) ls)
+      (all-written n (suc i) (omega arith) (λ j a b. k j (omega arith) (omega arith)) (λ j a b. c j (omega arith) (omega arith)) (place + positions book) (next-side book start pattern i (i + suc n) place (omega arith) m k p) ls)
 
 module _ {book : ResidualBook} {start n i : ℕ} (d : Side book start n i) (pattern : ℕ) where
   pub side-written : itemCoded pattern i ≡ true → (place : ℕ) → place ≡ itemPlace i → (ls : List ℤ) → itemsBytes n i pattern ls ≡ sideBytes book start n place ls

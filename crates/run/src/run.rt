@@ -18,7 +18,7 @@ use state::Frame;
 use state::Lengths;
 
 // The calls of a list that is in form.
-pub fn run_calls(
+fn run_calls(
     y: &mut [u8],
     cb: &mut [u8],
     cr: &mut [u8],
