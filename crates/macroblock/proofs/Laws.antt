@@ -24,7 +24,7 @@ use Rattle.record.specs.InnerRecord.{recordOf}
 use Rattle.record.specs.Range.{RecordRange, HeadRange}
 use Rattle.record.specs.Write.{recordBytes}
 use Rattle.record.specs.declared.Head.{Head}
-use Rattle.transcript.specs.InnerWritten.{Written}
+use Rattle.transcript.specs.Written.{Written}
 use Rattle.reading.specs.Read.{readCoded, readMacroblock}
 use Rattle.reading.specs.InnerAnswers.{Reading}
 use Rattle.reading.specs.declared.svq3_frame.ReadAnswer.{ReadAnswer}

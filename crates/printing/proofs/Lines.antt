@@ -13,7 +13,7 @@ use Rattle.record.specs.Record.{Record}
 use Rattle.record.specs.Write.{recordBytes}
 use Rattle.record.specs.Parse.{parseRecord}
 use Rattle.record.proofs.Records.{record-format}
-use Rattle.transcript.specs.InnerWritten.{Written}
+use Rattle.transcript.specs.Written.{Written}
 use Rattle.transcript.proofs.Writing.{Still, still-all, still-more, still-fits, still-none}
 use Rattle.transcript.specs.Records.{records}
 use Rattle.transcript.specs.InnerCheck.{recordAnswer}

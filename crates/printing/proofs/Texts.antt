@@ -16,7 +16,7 @@ use Rattle.refusal.specs.Refusal.{numberOf}
 use Rattle.refusal.specs.declared.Refusal.{Refusal}
 use Rattle.refusal.specs.declared.Refusal.the-variants.{GridSize, StateLength, MissingReference, ReferenceLength, CallRange, QuantiserRange, BitPlace, TranscriptRoom, Truncated, BadBitWidth, InvalidFrameCode, InvalidQuantiser, LevelPosition, NumberForm, FieldRange}
 use Rattle.levels.proofs.Turns.{when-true, when-false}
-use Rattle.transcript.specs.InnerWritten.{Written}
+use Rattle.transcript.specs.Written.{Written}
 use Rattle.transcript.proofs.Writing.{joined, written-on, Still, still-more, still-fits, still-none}
 use Rattle.printing.specs.Text.{hexDigit, hexBytes, hexLine, digits, decimal, line, countLine, bitsLine, refusedLine}
 

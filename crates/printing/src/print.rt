@@ -4,7 +4,7 @@ ghost use mathlib.Core.List.{_++_};
 ghost use Prim.Native.Nat.{_+_, _*_, _≤_, _^_, _<_};
 ghost use lib.ListN.{length, take};
 ghost use Rattle.transcript.specs.Records.{records};
-ghost use Rattle.transcript.specs.InnerWritten.{Written};
+ghost use Rattle.transcript.specs.Written.{Written};
 ghost use Rattle.run.specs.Run.{ranList};
 ghost use Rattle.run.specs.Left.{listLeft};
 ghost use Rattle.replay.specs.InnerRecorded.{Recorded};

@@ -2,7 +2,7 @@
 ghost use mathlib.Core.Path.{_≡_};
 ghost use Prim.Native.Nat.{_+_, _≤_, _<_};
 ghost use lib.ListN.{length};
-ghost use Rattle.transcript.specs.InnerWritten.{Written};
+ghost use Rattle.transcript.specs.Written.{Written};
 ghost use Rattle.printing.specs.Text.{hexDigit, hexLine, decimal, countLine, bitsLine, refusedLine};
 use refusal::Refusal;
 use refusal::number_of;

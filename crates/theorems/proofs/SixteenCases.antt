@@ -16,8 +16,7 @@ use Rattle.vectors.specs.Units.{convertPredictor, roundToSixths}
 use Rattle.vectors.specs.declared.svq3_mb.Svq3MvPrecision.the-variants.{Fullpel}
 use Rattle.compensation.specs.Formula.{along, formula}
 use Rattle.transform.specs.Tables.{dequantCoeff}
-use Rattle.transform.specs.Residual.{placed, scaled, sumOf, weighed, rowsOf, columnsOf, rounded, residual}
-use Rattle.transform.specs.InnerArrays.{listed}
+use Rattle.transform.specs.Residual.{placed, listed, scaled, sumOf, weighed, rowsOf, columnsOf, rounded, residual}
 
 pub sixteen_cases :
     (code (true ∷ []) ≡ got 0 1)

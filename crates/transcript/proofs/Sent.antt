@@ -19,7 +19,7 @@ use Rattle.number.specs.SignedNumber.{sent, signedNumber}
 use Rattle.number.proofs.Numbers.{lt-or-le, one-group}
 use Rattle.record.specs.Write.{signedNumbers}
 use Rattle.levels.proofs.Sets.{sets-append}
-use Rattle.transcript.specs.InnerWritten.{Written}
+use Rattle.transcript.specs.Written.{Written}
 use Rattle.transcript.specs.InnerSent.{heldOf, sentShort, allShort, Held}
 
 -- ---- the test

@@ -22,7 +22,7 @@ use Rattle.record.proofs.Lengths.{record-length}
 use Rattle.levels.specs.Items.{writeLists}
 use Rattle.record.specs.Write.{signedNumbers, itemBytes, itemsBytes, restBytes, recordBytes}
 use Rattle.record.specs.InnerSides.{sideBytes}
-use Rattle.transcript.specs.InnerWritten.{Written}
+use Rattle.transcript.specs.Written.{Written}
 use Rattle.levels.proofs.Turns.{when-false}
 use Rattle.levels.proofs.Sets.{sets-append}
 use Rattle.levels.proofs.Sides.{write-parts, dc-side, ac-side, dc-place, no-class, some-class}

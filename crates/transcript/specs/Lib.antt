@@ -1,4 +1,4 @@
-pub mod InnerWritten
+pub mod Written
 pub mod InnerSent
 pub mod InnerParsing
 pub mod InnerReceived

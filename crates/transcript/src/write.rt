@@ -8,7 +8,7 @@ ghost use Rattle.record.specs.Write.{signedNumbers, itemsBytes, restBytes, reco
 ghost use Rattle.record.specs.InnerSides.{sideBytes};
 ghost use Rattle.record.specs.InnerRecord.{recordOf};
 ghost use Rattle.record.specs.Record.{skipRecord};
-ghost use Rattle.transcript.specs.InnerWritten.{Written};
+ghost use Rattle.transcript.specs.Written.{Written};
 ghost use Rattle.transcript.specs.InnerSent.{heldOf, sentShort, allShort, Held};
 ghost use Rattle.record.specs.Range.{HeadRange};
 use ints::clamp_i32;

@@ -6,10 +6,9 @@ use lib.IntN.{pos, negsuc}
 use lib.ListN.{replicate}
 use Rattle.ints.specs.Z.{if_then_else_, clampZ, satZ, floorZ}
 use Rattle.transform.specs.Tables.{dequantCoeff, chromaQuantiserIndex, chromaCoeff}
-use Rattle.transform.specs.Residual.{placed, scaled, sumOf, weighed, rowsOf, columnsOf, rounded, residual}
+use Rattle.transform.specs.Residual.{placed, listed, scaled, sumOf, weighed, rowsOf, columnsOf, rounded, residual}
 use Rattle.transform.specs.InnerResidual.{noLevels}
 use Rattle.transform.specs.ChromaDc.{halved, secondary, scaledAt, chromaDc}
-use Rattle.transform.specs.InnerArrays.{listed}
 
 -- luma level -1 at place 0, quantiser 0: -1 in all sixteen
 pub luma-level : listed (residual (dequantCoeff 0) (pos 0) (placed (negsuc 0 ∷ []) 0)) ≡ replicate 16 (negsuc 0)

@@ -16,10 +16,10 @@ use Rattle.ints.proofs.Linear.{z-rules, add-z, neg-z, min-z, clip1-z, mag-z}
 use Rattle.picture.specs.Picture.{seen}
 use Rattle.picture.specs.InnerRows.{row, rows}
 use Rattle.picture.proofs.Laws.{more, row-more, row-values, rows-more, rows-other, painted-values}
-use Rattle.transform.specs.Residual.{placed, scaled, sumOf, weighed, rowsOf, columnsOf, rounded, residual}
+use Rattle.transform.specs.Residual.{placed, listed, scaled, sumOf, weighed, rowsOf, columnsOf, rounded, residual}
 use Rattle.transform.specs.InnerResidual.{noLevels}
 use Rattle.transform.specs.Added.{raised, added}
-use Rattle.transform.specs.InnerArrays.{listed, turned, dot, short, shortened, finished, Short, raisedAt}
+use Rattle.transform.specs.InnerArrays.{turned, dot, short, shortened, finished, Short, raisedAt}
 
 -- ---- the matrix, by coefficients
 -- a negative one

@@ -18,8 +18,8 @@ use mir.Val.{SFits}
 use Rattle.ints.specs.Z.{satZ}
 use Rattle.ints.proofs.Linear.{mag-z, abs-z}
 use Rattle.ints.proofs.Laws.{sat-same}
-use Rattle.transform.specs.Residual.{placed, scaled, sumOf, weighed, rowsOf, columnsOf, rounded, residual}
-use Rattle.transform.specs.InnerArrays.{Short, listed}
+use Rattle.transform.specs.Residual.{placed, listed, scaled, sumOf, weighed, rowsOf, columnsOf, rounded, residual}
+use Rattle.transform.specs.InnerArrays.{Short}
 use Rattle.transform.specs.InnerPasses.{Small, sumsOf, allWithin, exactAt, SmallFrom, Exact, rowSums, Rows, columnSums, Columns, Residuals}
 use Rattle.transform.proofs.Laws.{below-4, placed-listed, short-all}
 use Rattle.transform.proofs.Sums.{abs-times, abs-fits, sum-abs, weighed-exact, rounded-within}

@@ -1,21 +1,12 @@
 -- How the code holds blocks: contracts of inner functions.
 -- Assumes nothing.
-use mathlib.Core.List.{List, [], _∷_}
+use mathlib.Core.List.{List}
 use Prim.Native.Nat.{ℕ, _+_, _*_, _<_}
 use lib.IntN.{ℤ, pos, negsuc, _+ℤ_, _*ℤ_}
 use lib.Signed.{mag}
 use lib.ListN.{getD}
 use Rattle.ints.specs.Z.{clampZ, satZ, clip1Z}
 use Rattle.transform.specs.Residual.{rounded}
-
--- a block of 4 × 4 in an array, row by row
-unfoldable pub listed : (ℕ → ℕ → ℤ) → List ℤ
-listed x =
-    x 0 0 ∷ x 0 1 ∷ x 0 2 ∷ x 0 3
-    ∷ x 1 0 ∷ x 1 1 ∷ x 1 2 ∷ x 1 3
-    ∷ x 2 0 ∷ x 2 1 ∷ x 2 2 ∷ x 2 3
-    ∷ x 3 0 ∷ x 3 1 ∷ x 3 2 ∷ x 3 3
-    ∷ []
 
 -- columns for rows
 unfoldable pub turned : (ℕ → ℕ → ℤ) → ℕ → ℕ → ℤ

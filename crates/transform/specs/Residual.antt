@@ -1,6 +1,6 @@
 -- The residual of a block of 4 × 4. A block is a function of row and column, each 0 to 3.
 -- Assumes nothing.
-use mathlib.Core.List.{List}
+use mathlib.Core.List.{List, [], _∷_}
 use Prim.Native.Nat.{ℕ, zero, suc, _+_, _*_}
 use lib.IntN.{ℤ, pos, _+ℤ_, _-ℤ_, _*ℤ_}
 use lib.ListN.{getD}
@@ -9,6 +9,15 @@ use Rattle.ints.specs.Z.{satZ, floorZ}
 -- the sixteen numbers of l from `at` on, row by row
 unfoldable pub placed : List ℤ → ℕ → ℕ → ℕ → ℤ
 placed l at r c = getD l (at + (4 * r + c)) (pos 0)
+
+-- the sixteen numbers of a block, row by row
+unfoldable pub listed : (ℕ → ℕ → ℤ) → List ℤ
+listed x =
+    x 0 0 ∷ x 0 1 ∷ x 0 2 ∷ x 0 3
+    ∷ x 1 0 ∷ x 1 1 ∷ x 1 2 ∷ x 1 3
+    ∷ x 2 0 ∷ x 2 1 ∷ x 2 2 ∷ x 2 3
+    ∷ x 3 0 ∷ x 3 1 ∷ x 3 2 ∷ x 3 3
+    ∷ []
 
 -- levels times the quantiser's entry, saturated
 unfoldable pub scaled : ℕ → (ℕ → ℕ → ℤ) → ℕ → ℕ → ℤ

@@ -5,8 +5,7 @@ ghost use Prim.Native.Nat.{ℕ, _+_, _*_, _/_, _<_, _≤_};
 ghost use lib.Dec.{leb};
 ghost use lib.IntN.{pos, natAbs, _*ℤ_};
 ghost use lib.ListN.{length, getD};
-ghost use Rattle.transform.specs.Residual.{placed, rounded};
-ghost use Rattle.transform.specs.InnerArrays.{listed};
+ghost use Rattle.transform.specs.Residual.{placed, listed, rounded};
 ghost use Rattle.transform.specs.InnerPasses.{
   Small,
   sumsOf,

@@ -4,9 +4,9 @@ ghost use Prim.Native.Nat.{_≤_, _<_, _+_};
 ghost use lib.IntN.{_+ℤ_, _-ℤ_};
 ghost use lib.ListN.{length};
 ghost use Rattle.transform.specs.Tables.{dequantCoeff, chromaQuantiserIndex, chromaCoeff};
-ghost use Rattle.transform.specs.Residual.{placed, scaled, rowsOf, rounded, residual};
+ghost use Rattle.transform.specs.Residual.{placed, listed, scaled, rowsOf, rounded, residual};
 ghost use Rattle.transform.specs.ChromaDc.{halved, secondary, scaledAt, chromaDc};
-ghost use Rattle.transform.specs.InnerArrays.{listed, turned, dot, dotRow, short, shortened, finished};
+ghost use Rattle.transform.specs.InnerArrays.{turned, dot, dotRow, short, shortened, finished};
 
 const DEQUANT_COEFF_TABLE: [u32; 32] = [
     3881,

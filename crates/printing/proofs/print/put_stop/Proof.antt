@@ -4,7 +4,7 @@ use mathlib.Core.List.{List}
 use Prim.Native.Nat.{ℕ, _+_, _≤_}
 use lib.ListN.{length}
 use Rattle.run.specs.declared.Stop.{Stop}
-use Rattle.transcript.specs.InnerWritten.{Written}
+use Rattle.transcript.specs.Written.{Written}
 use Rattle.printing.specs.Print.{stopLines}
 use Rattle.printing.proofs.Texts.{written-none}
 use borrow.Author.Needs.{needs}

@@ -7,8 +7,7 @@ use lib.ListN.{replicate, getD}
 use mir.Syntax.{w16}
 use Rattle.ints.proofs.Fits.{back}
 use Rattle.picture.specs.InnerRows.{row}
-use Rattle.transform.specs.Residual.{placed}
-use Rattle.transform.specs.InnerArrays.{listed}
+use Rattle.transform.specs.Residual.{placed, listed}
 use Rattle.transform.proofs.Laws.{fill-more}
 use Rattle.transform.proofs.exact.block.Statement.{statement}
 use Rattle.transform.proofs.exact.block.Tie as tie

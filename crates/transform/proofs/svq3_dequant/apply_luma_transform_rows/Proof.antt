@@ -4,8 +4,8 @@ use mathlib.Core.List.{[], _∷_}
 use borrow.Author.Needs.{needs}
 use mir.Syntax.{w32}
 use Rattle.ints.proofs.Fits.{back}
-use Rattle.transform.specs.Residual.{placed, rowsOf}
-use Rattle.transform.specs.InnerArrays.{listed, turned, dotRow}
+use Rattle.transform.specs.Residual.{placed, listed, rowsOf}
+use Rattle.transform.specs.InnerArrays.{turned, dotRow}
 use Rattle.transform.proofs.Laws.{weighed-dot}
 use Rattle.transform.proofs.svq3_dequant.apply_luma_transform_rows.Statement.{statement}
 use Rattle.transform.proofs.svq3_dequant.apply_luma_transform_rows.Tie as tie

@@ -2,8 +2,8 @@
 use mathlib.Core.Path.{_∙_, ap}
 use borrow.Author.Needs.{needs}
 use mir.Facts.{toZ-ofZ}
-use Rattle.transform.specs.Residual.{placed}
-use Rattle.transform.specs.InnerArrays.{listed, shortened, finished}
+use Rattle.transform.specs.Residual.{placed, listed}
+use Rattle.transform.specs.InnerArrays.{shortened, finished}
 use Rattle.transform.proofs.Laws.{two-passes}
 use Rattle.transform.proofs.svq3_dequant.dequantize_transform_luma_block_with_dc.Statement.{statement}
 use Rattle.transform.proofs.svq3_dequant.dequantize_transform_luma_block_with_dc.Tie as tie

@@ -7,9 +7,8 @@ use lib.ListN.{replicate}
 use mir.Syntax.{w32}
 use Rattle.ints.proofs.Fits.{back}
 use Rattle.picture.specs.InnerRows.{row}
-use Rattle.transform.specs.Residual.{placed, scaled}
+use Rattle.transform.specs.Residual.{placed, listed, scaled}
 use Rattle.transform.specs.ChromaDc.{scaledAt}
-use Rattle.transform.specs.InnerArrays.{listed}
 use Rattle.transform.proofs.Laws.{fill-more}
 use Rattle.transform.proofs.svq3_dequant.scale_luma_block_by_quantiser.Statement.{statement}
 use Rattle.transform.proofs.svq3_dequant.scale_luma_block_by_quantiser.Tie as tie

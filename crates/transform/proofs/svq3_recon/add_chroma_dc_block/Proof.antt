@@ -8,9 +8,9 @@ use lib.ListN.{replicate}
 use mir.Syntax.{w16}
 use mir.Facts.{toZ-ofZ}
 use Rattle.ints.proofs.Fits.{read, back}
-use Rattle.transform.specs.Residual.{placed, residual, rounded}
+use Rattle.transform.specs.Residual.{placed, listed, residual, rounded}
 use Rattle.transform.specs.Added.{added}
-use Rattle.transform.specs.InnerArrays.{listed, short, shortened, Short}
+use Rattle.transform.specs.InnerArrays.{short, shortened, Short}
 use Rattle.transform.proofs.Laws.{short-listed, added-listed, dc-only}
 use Rattle.transform.proofs.svq3_recon.add_chroma_dc_block.Statement.{statement}
 use Rattle.transform.proofs.svq3_recon.add_chroma_dc_block.Tie as tie
