@@ -14,7 +14,7 @@ use Rattle.picture.specs.InnerRows.{row, rows}
 use Rattle.picture.proofs.Laws.{row-more, rows-more}
 use Rattle.vectors.specs.Modes.{numMotionVectors}
 use Rattle.picture.specs.Field.{Field}
-use Rattle.picture.specs.InnerField.{fieldOf}
+use Rattle.picture.specs.InnerField.{lentField}
 use Rattle.vectors.specs.Stored.{storedVectors, storedMarks, storedField}
 use Rattle.record.specs.Record.{Record, skipRecord}
 use Rattle.reading.specs.Bits.{callOf}
@@ -53,10 +53,10 @@ unfolding appliedField if_then_else_
 coded-field r f e = rw (ne-eqb (r .head .mode) 0 e)
 
 -- a skip, by its place
-pub skipped-mv : (cols rows column row : ℕ) (mv : List ℤ) (marks : List ℕ) → appliedField (skipRecord column row) (fieldOf cols rows mv marks) .mv ≡ storedVectors mv (4 * cols) (4 * column) (4 * row) 4 4 (pos 0) (pos 0)
+pub skipped-mv : (cols rows column row : ℕ) (mv : List ℤ) (marks : List ℕ) → appliedField (skipRecord column row) (lentField cols rows mv marks) .mv ≡ storedVectors mv (4 * cols) (4 * column) (4 * row) 4 4 (pos 0) (pos 0)
 unfolding skipRecord storedField
-skipped-mv cols rows column row mv marks = ap (λ (f : Field). f .mv) (skip-field (skipRecord column row) (fieldOf cols rows mv marks) refl)
+skipped-mv cols rows column row mv marks = ap (λ (f : Field). f .mv) (skip-field (skipRecord column row) (lentField cols rows mv marks) refl)
 
-pub skipped-marks : (cols rows column row : ℕ) (mv : List ℤ) (marks : List ℕ) → appliedField (skipRecord column row) (fieldOf cols rows mv marks) .marks ≡ storedMarks marks (4 * cols) (4 * column) (4 * row) 4 4
+pub skipped-marks : (cols rows column row : ℕ) (mv : List ℤ) (marks : List ℕ) → appliedField (skipRecord column row) (lentField cols rows mv marks) .marks ≡ storedMarks marks (4 * cols) (4 * column) (4 * row) 4 4
 unfolding skipRecord storedField
-skipped-marks cols rows column row mv marks = ap (λ (f : Field). f .marks) (skip-field (skipRecord column row) (fieldOf cols rows mv marks) refl)
+skipped-marks cols rows column row mv marks = ap (λ (f : Field). f .marks) (skip-field (skipRecord column row) (lentField cols rows mv marks) refl)

@@ -4,7 +4,7 @@ ghost use Prim.Native.Nat.{_*_, _<_, _≤_};
 ghost use lib.ListN.{length};
 ghost use Rattle.picture.specs.Picture.{lumaLength, chromaLength, cellCount};
 ghost use Rattle.picture.specs.InnerPicture.{Sized, Within};
-ghost use Rattle.picture.specs.InnerField.{fieldOf};
+ghost use Rattle.picture.specs.InnerField.{lentField};
 ghost use Rattle.record.specs.InnerRecord.{recordOf};
 ghost use Rattle.record.specs.Record.{skipRecord};
 ghost use Rattle.record.specs.Range.{RecordRange};
@@ -88,8 +88,8 @@ pub fn apply_coded(
     ensures { λ _. ⌜ now (y .exit) ≡ appliedLuma cols rows (now (ry .entry)) (recordOf head (now (vectors .entry)) (now (levels .entry))) (now (y .entry)) ⌝ }
     ensures { λ _. ⌜ now (cb .exit) ≡ appliedChroma 0 cols rows (now (rcb .entry)) (recordOf head (now (vectors .entry)) (now (levels .entry))) (now (cb .entry)) ⌝ }
     ensures { λ _. ⌜ now (cr .exit) ≡ appliedChroma 1 cols rows (now (rcr .entry)) (recordOf head (now (vectors .entry)) (now (levels .entry))) (now (cr .entry)) ⌝ }
-    ensures { λ _. ⌜ now (mv .exit) ≡ appliedField (recordOf head (now (vectors .entry)) (now (levels .entry))) (fieldOf cols rows (now (mv .entry)) (now (marks .entry))) .mv ⌝ }
-    ensures { λ _. ⌜ now (marks .exit) ≡ appliedField (recordOf head (now (vectors .entry)) (now (levels .entry))) (fieldOf cols rows (now (mv .entry)) (now (marks .entry))) .marks ⌝ }
+    ensures { λ _. ⌜ now (mv .exit) ≡ appliedField (recordOf head (now (vectors .entry)) (now (levels .entry))) (lentField cols rows (now (mv .entry)) (now (marks .entry))) .mv ⌝ }
+    ensures { λ _. ⌜ now (marks .exit) ≡ appliedField (recordOf head (now (vectors .entry)) (now (levels .entry))) (lentField cols rows (now (mv .entry)) (now (marks .entry))) .marks ⌝ }
 {
     apply_luma(y, ry, vectors, levels, cols, rows, head);
     apply_chroma(cb, cr, rcb, rcr, vectors, levels, cols, rows, head);
@@ -119,8 +119,8 @@ pub fn apply_skip(
     ensures { λ _. ⌜ now (y .exit) ≡ appliedLuma cols rows (now (ry .entry)) (skipRecord column row) (now (y .entry)) ⌝ }
     ensures { λ _. ⌜ now (cb .exit) ≡ appliedChroma 0 cols rows (now (rcb .entry)) (skipRecord column row) (now (cb .entry)) ⌝ }
     ensures { λ _. ⌜ now (cr .exit) ≡ appliedChroma 1 cols rows (now (rcr .entry)) (skipRecord column row) (now (cr .entry)) ⌝ }
-    ensures { λ _. ⌜ now (mv .exit) ≡ appliedField (skipRecord column row) (fieldOf cols rows (now (mv .entry)) (now (marks .entry))) .mv ⌝ }
-    ensures { λ _. ⌜ now (marks .exit) ≡ appliedField (skipRecord column row) (fieldOf cols rows (now (mv .entry)) (now (marks .entry))) .marks ⌝ }
+    ensures { λ _. ⌜ now (mv .exit) ≡ appliedField (skipRecord column row) (lentField cols rows (now (mv .entry)) (now (marks .entry))) .mv ⌝ }
+    ensures { λ _. ⌜ now (marks .exit) ≡ appliedField (skipRecord column row) (lentField cols rows (now (mv .entry)) (now (marks .entry))) .marks ⌝ }
 {
     copy_macroblock_from(y, cb, cr, ry, rcb, rcr, cols, rows, column, row);
     mark_macroblock(mv, marks, cols, column, row);

@@ -6,7 +6,7 @@ ghost use Rattle.picture.specs.Picture.{cellCount};
 ghost use Rattle.picture.specs.InnerPicture.{Within};
 ghost use Rattle.picture.specs.InnerRows.{row};
 ghost use Rattle.vectors.specs.Modes.{numMotionVectors};
-ghost use Rattle.picture.specs.InnerField.{fieldOf};
+ghost use Rattle.picture.specs.InnerField.{lentField};
 ghost use Rattle.apply.specs.Apply.{storedUpTo};
 ghost use Rattle.apply.specs.InnerCells.{ownerOf, ownNumber};
 use state::Call;
@@ -55,8 +55,8 @@ pub fn store_partitions(
 )
     requires { ⌜ Within cols rows (call .column) (call .row) × (call .mode ≤ 7) × (0 < call .mode) ⌝ }
     requires { ⌜ (length (now mv) ≡ 2 * cellCount cols rows) × (length (now marks) ≡ cellCount cols rows) × (length (now vectors) ≡ 32) ⌝ }
-    ensures { λ _. ⌜ now (mv .exit) ≡ storedUpTo (numMotionVectors (call .mode)) call (now (vectors .entry)) (fieldOf cols rows (now (mv .entry)) (now (marks .entry))) .mv ⌝ }
-    ensures { λ _. ⌜ now (marks .exit) ≡ storedUpTo (numMotionVectors (call .mode)) call (now (vectors .entry)) (fieldOf cols rows (now (mv .entry)) (now (marks .entry))) .marks ⌝ }
+    ensures { λ _. ⌜ now (mv .exit) ≡ storedUpTo (numMotionVectors (call .mode)) call (now (vectors .entry)) (lentField cols rows (now (mv .entry)) (now (marks .entry))) .mv ⌝ }
+    ensures { λ _. ⌜ now (marks .exit) ≡ storedUpTo (numMotionVectors (call .mode)) call (now (vectors .entry)) (lentField cols rows (now (mv .entry)) (now (marks .entry))) .marks ⌝ }
 {
     let stride = 4 * cols;
     let x = 4 * (call.column as usize);

@@ -5,5 +5,5 @@ use Prim.Native.Nat.{ℕ}
 use lib.IntN.{ℤ}
 use Rattle.picture.specs.Field.{Field}
 
-abbrev pub fieldOf : ℕ → ℕ → List ℤ → List ℕ → Field
-fieldOf cols rows mv marks = record { cols = cols; rows = rows; mv = mv; marks = marks }
+abbrev pub lentField : ℕ → ℕ → List ℤ → List ℕ → Field
+lentField cols rows mv marks = record { cols = cols; rows = rows; mv = mv; marks = marks }

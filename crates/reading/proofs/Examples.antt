@@ -20,11 +20,11 @@ use Rattle.record.specs.Record.{noVectors}
 use Rattle.levels.specs.Items.{noLevels, itemCoded, readLists, readItems}
 use Rattle.record.proofs.Examples.{printed}
 use Rattle.reading.specs.Read.{predictorAt, moved, readVectors, quantiserIn, readQuantiser, recordOf, atFirst, readResidual, readCoded, readMacroblock}
-use Rattle.reading.specs.InnerAnswers.{contextOf}
+use Rattle.reading.specs.InnerAnswers.{lentContext}
 
 -- the byte 98: 1 vertical 0, 001 horizontal +1, 1 pattern 0; one macroblock, full pel, quantiser 5
 pub read-printed :
-    readMacroblock (contextOf 1 1 (replicate 32 (pos 0)) (replicate 16 0) (record { halfpel = false; thirdpel = false; delta = false }) 5) (record { column = 0; row = 0; mode = 1 }) (bitList (152 ∷ [])) ≡ got printed 5
+    readMacroblock (lentContext 1 1 (replicate 32 (pos 0)) (replicate 16 0) (record { halfpel = false; thirdpel = false; delta = false }) 5) (record { column = 0; row = 0; mode = 1 }) (bitList (152 ∷ [])) ≡ got printed 5
 unfolding if_then_else_ floorZ satZ overZ clampZ minZ maxZ medianZ bitList codeFrom code signedOf signedCode patterns pattern quadrantCoded partitionWidth partitionHeight numMotionVectors offsetX offsetY precision cellAt nearAt leftOf aboveOf aboveLeftOf medianOf combined predicted heldIn predictor roundToSixths convertPredictor summed scaled storedPart clippedPart noVectors noLevels itemCoded readLists readItems printed predictorAt moved readVectors quantiserIn readQuantiser recordOf atFirst readResidual readCoded readMacroblock
 read-printed = refl
 

@@ -6,7 +6,7 @@ use Prim.Native.Nat.{ℕ, _+_, _/_, _≤_}
 use lib.IntN.{ℤ}
 use Rattle.refusal.specs.Got.{Got, got, refused}
 use Rattle.vectors.specs.Modes.{partitionWidth, partitionHeight}
-use Rattle.picture.specs.InnerField.{fieldOf}
+use Rattle.picture.specs.InnerField.{lentField}
 use Rattle.vectors.specs.InnerWindow.{Follows}
 use Rattle.picture.specs.InnerPicture.{Within}
 use Rattle.record.specs.Record.{Record}
@@ -21,9 +21,9 @@ use Rattle.reading.specs.declared.svq3_frame.VectorsAnswer.the-variants 
 use Rattle.reading.specs.declared.svq3_frame.ReadAnswer.{ReadAnswer}
 use Rattle.reading.specs.declared.svq3_frame.ReadAnswer.the-variants.{Read, Refused}
 
--- what reading depends on, by the parameters of a function
-abbrev pub contextOf : ℕ → ℕ → List ℤ → List ℕ → Flags → ℕ → Context
-contextOf cols rows mv marks flags q = record { field = fieldOf cols rows mv marks; halfpel = flags .halfpel; thirdpel = flags .thirdpel; delta = flags .delta; quantiser = q }
+-- what reading depends on, as a function is lent it
+abbrev pub lentContext : ℕ → ℕ → List ℤ → List ℕ → Flags → ℕ → Context
+lentContext cols rows mv marks flags q = record { field = lentField cols rows mv marks; halfpel = flags .halfpel; thirdpel = flags .thirdpel; delta = flags .delta; quantiser = q }
 
 -- ---- the answers of readers that started at a place
 abbrev pub quantiserAnswer : ℕ → Got ℕ → QuantiserAnswer

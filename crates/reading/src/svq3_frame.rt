@@ -6,12 +6,12 @@ ghost use Rattle.bits.specs.Bits.{bitList};
 ghost use Rattle.bits.specs.Code.{bitValue};
 ghost use Rattle.picture.specs.InnerPicture.{Within};
 ghost use Rattle.picture.specs.Picture.{cellCount};
-ghost use Rattle.picture.specs.InnerField.{fieldOf};
+ghost use Rattle.picture.specs.InnerField.{lentField};
 ghost use Rattle.vectors.specs.Modes.{numMotionVectors};
 ghost use Rattle.record.specs.Record.{noVectors};
 ghost use Rattle.levels.specs.Items.{noLevels};
 ghost use Rattle.reading.specs.Read.{Moving, moved, readVectors, readQuantiser, atFirst, readResidual, readCoded};
-ghost use Rattle.reading.specs.InnerAnswers.{contextOf, quantiserAnswer, InGrid, Holds, Stepping, Vectoring, Reading};
+ghost use Rattle.reading.specs.InnerAnswers.{lentContext, quantiserAnswer, InGrid, Holds, Stepping, Vectoring, Reading};
 use bits::pair::PairAnswer;
 use bits::pair::read_signed_pair;
 use bits::svq3_mv::SignedAnswer;
@@ -156,7 +156,7 @@ fn read_vectors(
 ) -> VectorsAnswer
     requires { ⌜ InGrid motion × (length (now bits) < 2 ^ 61) ⌝ }
     requires { ⌜ (length (now mv) ≡ 2 * cellCount (motion .cols) (motion .rows)) × (length (now marks) ≡ cellCount (motion .cols) (motion .rows)) × (now vectors ≡ noVectors) ⌝ }
-    ensures { λ r. ⌜ Vectoring at (readVectors (motion .call) (motion .precision) (numMotionVectors (motion .call .mode)) 0 (atFirst (fieldOf (motion .cols) (motion .rows) (now (mv .entry)) (now (marks .entry)))) (drop at (bitList (now (bits .entry))))) r (now (vectors .exit)) ⌝ }
+    ensures { λ r. ⌜ Vectoring at (readVectors (motion .call) (motion .precision) (numMotionVectors (motion .call .mode)) 0 (atFirst (lentField (motion .cols) (motion .rows) (now (mv .entry)) (now (marks .entry)))) (drop at (bitList (now (bits .entry))))) r (now (vectors .exit)) ⌝ }
 {
     let mut near: [i32; 60] = [0; 60];
     let mut marked: [u8; 30] = [0; 30];
@@ -262,7 +262,7 @@ pub fn read_coded(
 ) -> ReadAnswer
     requires { ⌜ Within cols rows (call .column) (call .row) × (call .mode ≤ 7) × (quantiser ≤ 31) × (length (now bits) < 2 ^ 61) ⌝ }
     requires { ⌜ (length (now mv) ≡ 2 * cellCount cols rows) × (length (now marks) ≡ cellCount cols rows) × (now vectors ≡ noVectors) × (now levels ≡ noLevels) ⌝ }
-    ensures { λ r. ⌜ Reading at (readCoded (contextOf cols rows (now (mv .entry)) (now (marks .entry)) flags quantiser) call (drop at (bitList (now (bits .entry))))) r (now (vectors .exit)) (now (levels .exit)) ⌝ }
+    ensures { λ r. ⌜ Reading at (readCoded (lentContext cols rows (now (mv .entry)) (now (marks .entry)) flags quantiser) call (drop at (bitList (now (bits .entry))))) r (now (vectors .exit)) (now (levels .exit)) ⌝ }
 {
     match read_inter_mv_precision_p_frame(bits, at, flags.thirdpel, flags.halfpel) {
         PrecisionAnswer::Precision(precision, p) => {

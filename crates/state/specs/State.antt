@@ -8,14 +8,6 @@ use Rattle.picture.specs.Field.{Field}
 use lib.ListN.{length}
 use Rattle.state.specs.declared.Lengths.{Lengths}
 
--- what reading depends on beside the bits: the vectors and marks, the flags and the quantiser
-pub record Context : Type 0 where
-  pub field : Field
-  pub halfpel : Bool
-  pub thirdpel : Bool
-  pub delta : Bool
-  pub quantiser : ℕ
-
 pub record State : Type 0 where
   -- the grid, in macroblocks
   pub cols : ℕ
@@ -40,7 +32,14 @@ pub record State : Type 0 where
 abbrev pub fieldOf : State → Field
 fieldOf s = record { cols = s .cols; rows = s .rows; mv = s .mv; marks = s .marks }
 
--- what reading depends on
+-- what reading depends on beside the bits: the vectors and marks, the flags and the quantiser
+pub record Context : Type 0 where
+  pub field : Field
+  pub halfpel : Bool
+  pub thirdpel : Bool
+  pub delta : Bool
+  pub quantiser : ℕ
+
 abbrev pub contextOf : State → Context
 contextOf s = record { field = fieldOf s; halfpel = s .halfpel; thirdpel = s .thirdpel; delta = s .delta; quantiser = s .quantiser }
 

@@ -20,7 +20,7 @@ module _ (l : List ℤ) (p q r s : ℕ) (a b c d : ℤ) where
   pub four-length : length four ≡ length l
   four-length = simp length-set
 
-  pub four-other : (n : ℕ) → n ≢ p → n ≢ q → n ≢ r → n ≢ s → getD four n (pos 0) ≡ getD l n (pos 0)
+  four-other : (n : ℕ) → n ≢ p → n ≢ q → n ≢ r → n ≢ s → getD four n (pos 0) ≡ getD l n (pos 0)
   four-other n e f g h =
       getD-set-other (set (set (set l p a) q b) r c) s n d (pos 0) h ∙ getD-set-other (set (set l p a) q b) r n c (pos 0) g
       ∙ getD-set-other (set l p a) q n b (pos 0) f

@@ -15,7 +15,7 @@ use Rattle.picture.proofs.Laws.{plane-inside}
 use Rattle.vectors.specs.Modes.{partitionWidth, partitionHeight, numMotionVectors, offsetX, offsetY}
 use Rattle.vectors.proofs.Partitions.{cut, inside-units, offset-x, offset-y}
 use Rattle.picture.specs.Field.{Field}
-use Rattle.picture.specs.InnerField.{fieldOf}
+use Rattle.picture.specs.InnerField.{lentField}
 use Rattle.vectors.specs.Predict.{predicted, predictor}
 use Rattle.vectors.specs.Stored.{storedField}
 use Rattle.vectors.specs.InnerWindow.{Seen, Part, cornerPairs, cornerMarks}
@@ -46,7 +46,7 @@ module _ {cols rows column row : ℕ} (g : Within cols rows column row) where
 
   -- what `load_neighbours` leaves
   pub follows-start : {mv near : List ℤ} {marks marked : List ℕ} → length mv ≡ 2 * cellCount cols rows → length marks ≡ cellCount cols rows
-      → ((n : ℕ) → row < n → (wide high : ℕ) → Seen wide high (fieldOf cols n mv marks) column row near marked) → (wide high : ℕ) → Follows wide high (fieldOf cols rows mv marks) cols rows column row near marked
+      → ((n : ℕ) → row < n → (wide high : ℕ) → Seen wide high (lentField cols n mv marks) column row near marked) → (wide high : ℕ) → Follows wide high (lentField cols rows mv marks) cols rows column row near marked
   follows-start e k s wide high = record { same-cols = refl; same-rows = refl; sized = record { numbers = e; cells = k }; seen = s rows (g .down) wide high }
 
   module _ {f : Field} {near : List ℤ} {marked : List ℕ} {wide high : ℕ} (t : Follows wide high f cols rows column row near marked) (cx cy : ℕ) (p : Part cx cy wide high) where

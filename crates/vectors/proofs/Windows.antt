@@ -21,7 +21,7 @@ use Rattle.picture.specs.InnerPicture.{Within}
 use Rattle.picture.specs.InnerRows.{row}
 use Rattle.picture.proofs.Laws.{row-length, row-same, row-other, within-true, within-in}
 use Rattle.picture.specs.Field.{Field}
-use Rattle.picture.specs.InnerField.{fieldOf}
+use Rattle.picture.specs.InnerField.{lentField}
 use Rattle.vectors.specs.Predict.{vector, cellAt, nearAt, leftOf, aboveOf, aboveLeftOf, orElse, combined, predicted}
 use Rattle.vectors.specs.Stored.{storedField}
 use Rattle.vectors.proofs.Tests.{neither, same-test}
@@ -55,7 +55,7 @@ pub whole-place : (cols column y n : ℕ) → 0 < y → column + 1 < cols → y 
 whole-place cols column y n b l h = omega (arith, on-place (4 * column + 8) y (4 * cols) n (omega arith) b (omega arith) h)
 
 module _ (cols rows : ℕ) (mv : List ℤ) (marks : List ℕ) where
-  pub off-missing : (x y : ℕ) → off cols x y ≡ true → aboveLeftOf (fieldOf cols rows mv marks) x y ≡ Missing
+  pub off-missing : (x y : ℕ) → off cols x y ≡ true → aboveLeftOf (lentField cols rows mv marks) x y ≡ Missing
   unfolding aboveLeftOf leftOf nearAt
   off-missing x zero e = refl
   off-missing zero (suc y) e = refl
@@ -63,7 +63,7 @@ module _ (cols rows : ℕ) (mv : List ℤ) (marks : List ℕ) where
       let t : ltb (4 * cols) (suc x) ≡ true = rw (ne-eqb (suc x) 0 (omega arith), ne-eqb (suc y) 0 (omega arith)) at e in
       if-no _ _ _ (rw (le-ltb x (4 * cols) (omega (arith, ltb-true (4 * cols) (suc x) t))) refl)
 
-  pub on-shows : (x y : ℕ) → 1 ≤ x → 1 ≤ y → x ≤ 4 * cols → y ≤ 4 * rows → aboveLeftOf (fieldOf cols rows mv marks) x y ≡ cellAt mv marks ((y - 1) * (4 * cols) + (x - 1))
+  pub on-shows : (x y : ℕ) → 1 ≤ x → 1 ≤ y → x ≤ 4 * cols → y ≤ 4 * rows → aboveLeftOf (lentField cols rows mv marks) x y ≡ cellAt mv marks ((y - 1) * (4 * cols) + (x - 1))
   unfolding aboveLeftOf leftOf nearAt
   on-shows x zero a b c d = absurd (omega arith)
   on-shows zero (suc y) a b c d = absurd (omega arith)
@@ -71,7 +71,7 @@ module _ (cols rows : ℕ) (mv : List ℤ) (marks : List ℕ) where
 
   -- a row whose six cells all lie on it
   pub whole-shows : (column y c : ℕ) → 0 < column → 0 < y → column + 1 < cols → y ≤ 4 * rows → c < 6
-      → cellAt mv marks ((y - 1) * (4 * cols) + (4 * column - 1) + c) ≡ aboveLeftOf (fieldOf cols rows mv marks) (4 * column + c) y
+      → cellAt mv marks ((y - 1) * (4 * cols) + (4 * column - 1) + c) ≡ aboveLeftOf (lentField cols rows mv marks) (4 * column + c) y
   whole-shows column y c a b l h lc =
       let i : (y - 1) * (4 * cols) + (4 * column - 1) + c ≡ (y - 1) * (4 * cols) + (4 * column + c - 1) = omega arith in
       ap (cellAt mv marks) i ∙ sym (on-shows (4 * column + c) y (omega arith) b (omega arith) h)

@@ -11,7 +11,7 @@ ghost use Rattle.picture.specs.Painted.{Inside};
 ghost use Rattle.picture.specs.InnerPicture.{Within};
 ghost use Rattle.picture.specs.InnerRows.{row};
 ghost use Rattle.picture.specs.Field.{Field};
-ghost use Rattle.picture.specs.InnerField.{fieldOf};
+ghost use Rattle.picture.specs.InnerField.{lentField};
 ghost use Rattle.vectors.specs.Predict.{vector, cellAt, aboveLeftOf, combined, predictor};
 ghost use Rattle.vectors.specs.InnerWindow.{Window, Seen, Part, pairSet, cornerPairs, cornerMarks};
 use crate::svq3_frame::Near;
@@ -35,7 +35,7 @@ fn load_cell(
     requires { ⌜ Window (now near) (now marked) × (k < 30) ⌝ }
     requires { ⌜ (cols ≤ 4096) × (length (now mv) ≡ 2 * length (now marks)) × (y * (4 * cols) ≤ length (now marks)) ⌝ }
     ensures { λ _. ⌜ Window (now (near .exit)) (now (marked .exit)) ⌝ }
-    ensures { λ _. ⌜ ((rows : ℕ) → y ≤ 4 * rows → cellAt (now (near .exit)) (now (marked .exit)) k ≡ aboveLeftOf (fieldOf cols rows (now (mv .entry)) (now (marks .entry))) x y) ⌝ }
+    ensures { λ _. ⌜ ((rows : ℕ) → y ≤ 4 * rows → cellAt (now (near .exit)) (now (marked .exit)) k ≡ aboveLeftOf (lentField cols rows (now (mv .entry)) (now (marks .entry))) x y) ⌝ }
     ensures { λ _. ⌜ ((j : ℕ) → (j ≡ k → ⊥) → cellAt (now (near .exit)) (now (marked .exit)) j ≡ cellAt (now (near .entry)) (now (marked .entry)) j) ⌝ }
 {
     let stride = 4 * cols;
@@ -63,7 +63,7 @@ fn load_cells(
     requires { ⌜ Window (now near) (now marked) × (at + 6 ≤ 30) ⌝ }
     requires { ⌜ (cols ≤ 4096) × (column < cols) × (length (now mv) ≡ 2 * length (now marks)) × (y * (4 * cols) ≤ length (now marks)) ⌝ }
     ensures { λ _. ⌜ Window (now (near .exit)) (now (marked .exit)) ⌝ }
-    ensures { λ _. ⌜ ((rows : ℕ) → y ≤ 4 * rows → (c : ℕ) → c < 6 → cellAt (now (near .exit)) (now (marked .exit)) (at + c) ≡ aboveLeftOf (fieldOf cols rows (now (mv .entry)) (now (marks .entry))) (4 * column + c) y) ⌝ }
+    ensures { λ _. ⌜ ((rows : ℕ) → y ≤ 4 * rows → (c : ℕ) → c < 6 → cellAt (now (near .exit)) (now (marked .exit)) (at + c) ≡ aboveLeftOf (lentField cols rows (now (mv .entry)) (now (marks .entry))) (4 * column + c) y) ⌝ }
     ensures { λ _. ⌜ ((j : ℕ) → j < at → cellAt (now (near .exit)) (now (marked .exit)) j ≡ cellAt (now (near .entry)) (now (marked .entry)) j) ⌝ }
 {
     let mut c = 0;
@@ -113,7 +113,7 @@ fn load_row(
     requires { ⌜ (cols ≤ 4096) × (column < cols) × (length (now mv) ≡ 2 * length (now marks)) × (y * (4 * cols) ≤ length (now marks)) ⌝ }
     requires { ⌜ (whole ≡ true → (0 < column) × (0 < y) × (column + 1 < cols)) ⌝ }
     ensures { λ _. ⌜ Window (now (near .exit)) (now (marked .exit)) ⌝ }
-    ensures { λ _. ⌜ ((rows : ℕ) → y ≤ 4 * rows → (c : ℕ) → c < 6 → cellAt (now (near .exit)) (now (marked .exit)) (at + c) ≡ aboveLeftOf (fieldOf cols rows (now (mv .entry)) (now (marks .entry))) (4 * column + c) y) ⌝ }
+    ensures { λ _. ⌜ ((rows : ℕ) → y ≤ 4 * rows → (c : ℕ) → c < 6 → cellAt (now (near .exit)) (now (marked .exit)) (at + c) ≡ aboveLeftOf (lentField cols rows (now (mv .entry)) (now (marks .entry))) (4 * column + c) y) ⌝ }
     ensures { λ _. ⌜ ((j : ℕ) → j < at → cellAt (now (near .exit)) (now (marked .exit)) j ≡ cellAt (now (near .entry)) (now (marked .entry)) j) ⌝ }
 {
     if whole {
@@ -137,7 +137,7 @@ pub fn load_neighbours(
 )
     requires { ⌜ Window (now near) (now marked) ⌝ }
     requires { ⌜ (cols ≤ 4096) × (length (now mv) ≡ 2 * length (now marks)) × Inside (4 * cols) (4 * column) (4 * row) 4 4 (length (now marks)) ⌝ }
-    ensures { λ _. ⌜ ((rows : ℕ) → row < rows → (wide high : ℕ) → Seen wide high (fieldOf cols rows (now (mv .entry)) (now (marks .entry))) column row (now (near .exit)) (now (marked .exit))) ⌝ }
+    ensures { λ _. ⌜ ((rows : ℕ) → row < rows → (wide high : ℕ) → Seen wide high (lentField cols rows (now (mv .entry)) (now (marks .entry))) column row (now (near .exit)) (now (marked .exit))) ⌝ }
 {
     let whole = (0 < column) & (0 < row) & (column + 1 < cols);
     let mut r = 0;

@@ -9,7 +9,7 @@ use Rattle.picture.specs.Painted.{Inside}
 use Rattle.picture.specs.Picture.{always}
 use Rattle.picture.specs.InnerRows.{rows}
 use Rattle.picture.proofs.Laws.{Row, inside-row, rows-more, rows-painted}
-use Rattle.picture.specs.InnerField.{fieldOf}
+use Rattle.picture.specs.InnerField.{lentField}
 use Rattle.vectors.proofs.Following.{macroblock-cells}
 use Rattle.vectors.proofs.Storing.{pairs-inside}
 use Rattle.apply.specs.InnerCells.{ownNumber}
@@ -63,7 +63,7 @@ returns c =
     let s = o .before .before .before .before in
     let a = s .args in
     let i = c .before .loop .inv in
-    let f = fieldOf (a .cols) (a .rows) (a .mv .now) (a .marks .now) in
+    let f = lentField (a .cols) (a .rows) (a .mv .now) (a .marks .now) in
     let e : c .before .loop .r ≡ 4 = omega arith in (
       i .3 ∙ rw e (rows-painted (pos 0) _ _ (pairs-inside (omega (arith, s .pre .1 .0, s .pre .1 .1)) (cells s))) ∙ tiled-numbers (a .call) (a .vectors .now) f (s .pre .0 .1) (s .pre .0 .2) (o .owners .result) (o .owners .ensures),
       i .4 ∙ rw e (rows-painted 0 _ _ (cells s)) ∙ tiled-marks (a .call) (a .vectors .now) f (s .pre .0 .1) (s .pre .0 .2),

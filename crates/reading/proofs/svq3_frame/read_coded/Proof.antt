@@ -3,13 +3,13 @@ use mathlib.Core.Path.{sym, _∙_}
 use borrow.Author.Needs.{needs}
 use Rattle.bits.specs.Bits.{bitList}
 use Rattle.state.specs.State.{Context}
-use Rattle.reading.specs.InnerAnswers.{contextOf}
+use Rattle.reading.specs.InnerAnswers.{lentContext}
 use Rattle.reading.proofs.Readings.{no-precision, no-vectors, with-vectors}
 use Rattle.reading.proofs.svq3_frame.read_coded.Statement.{statement}
 use Rattle.reading.proofs.svq3_frame.read_coded.Tie as tie
 
 abbrev context : tie.Start → Context
-context s = let a = s .args in contextOf (a .cols) (a .rows) (a .mv .now) (a .marks .now) (a .flags) (a .quantiser)
+context s = let a = s .args in lentContext (a .cols) (a .rows) (a .mv .now) (a .marks .now) (a .flags) (a .quantiser)
 
 returns : tie.Need-returns
 returns c =

@@ -7,7 +7,7 @@ use lib.ListN.{length}
 use Rattle.bits.specs.Bits.{bitList}
 use Rattle.vectors.specs.Modes.{partitionWidth, partitionHeight, numMotionVectors}
 use Rattle.vectors.proofs.Partitions.{num-most}
-use Rattle.picture.specs.InnerField.{fieldOf}
+use Rattle.picture.specs.InnerField.{lentField}
 use Rattle.vectors.proofs.Following.{macroblock-cells, follows-start}
 use Rattle.record.proofs.Padded.{length-noVectors}
 use Rattle.reading.specs.Read.{Moving, atFirst}
@@ -18,7 +18,7 @@ use Rattle.reading.proofs.svq3_frame.read_vectors.Tie as tie
 
 abbrev Inv-loop : tie.InvT-loop
 Inv-loop vectors₀ mv marks bits at motion near₀ marked₀ column row n p₀ clipped₀ i₀ vectors near marked p clipped i =
-    (length vectors ≡ 32) × ((m : Moving) × Going motion n (atFirst (fieldOf (motion .cols) (motion .rows) mv marks)) (bitList bits) at i p m × Holds m motion clipped vectors near marked)
+    (length vectors ≡ 32) × ((m : Moving) × Going motion n (atFirst (lentField (motion .cols) (motion .rows) mv marks)) (bitList bits) at i p m × Holds m motion clipped vectors near marked)
 
 abbrev μ-loop : tie.MeasureT-loop
 μ-loop vectors₀ mv marks bits at motion near₀ marked₀ column row n p₀ clipped₀ i₀ vectors near marked p clipped i =
@@ -41,7 +41,7 @@ unfolding atFirst
 loop-holds c =
     let s = c .before .before .before .before .before .before .before .before .before in
     let a = s .args in
-    let f = fieldOf (a .motion .cols) (a .motion .rows) (a .mv .now) (a .marks .now) in
+    let f = lentField (a .motion .cols) (a .motion .rows) (a .mv .now) (a .marks .now) in
     (ap length (s .pre .1 .2) ∙ length-noVectors, (atFirst f, begins (a .motion) (c .num-motion-vectors .result) (atFirst f) (bitList (a .bits .now)) (a .at), record { count = refl; stored = s .pre .1 .2; follows = follows-start (s .pre .0 .0 .within) (s .pre .1 .0) (s .pre .1 .1) (c .before .load-neighbours .ensures) (partitionWidth (a .motion .call .mode) / 4) (partitionHeight (a .motion .call .mode) / 4) }))
 
 read-partition-requires : tie.Need-read-partition-requires Inv-loop μ-loop

@@ -3,7 +3,7 @@ use mathlib.Core.Path.{_≡_, refl, _∙_}
 use Prim.Native.Nat.{ℕ, _+_, _-_, _*_, _<_, _≤_}
 use native.Mathlib.Omega.{arith}
 use borrow.Author.Count.{below-none, below-more}
-use Rattle.picture.specs.InnerField.{fieldOf}
+use Rattle.picture.specs.InnerField.{lentField}
 use Rattle.vectors.specs.Predict.{cellAt, aboveLeftOf}
 use Rattle.vectors.specs.InnerWindow.{Window}
 use Rattle.vectors.proofs.window.load_cells.Statement.{statement}
@@ -12,7 +12,7 @@ use Rattle.vectors.proofs.window.load_cells.Tie as tie
 abbrev Inv-loop : tie.InvT-loop
 Inv-loop near₀ marked₀ mv marks cols column y at c₀ near marked c =
     (c ≤ 6) × Window near marked
-    × ((rows : ℕ) → y ≤ 4 * rows → (d : ℕ) → d < c → cellAt near marked (at + d) ≡ aboveLeftOf (fieldOf cols rows mv marks) (4 * column + d) y)
+    × ((rows : ℕ) → y ≤ 4 * rows → (d : ℕ) → d < c → cellAt near marked (at + d) ≡ aboveLeftOf (lentField cols rows mv marks) (4 * column + d) y)
     × ((j : ℕ) → j < at → cellAt near marked j ≡ cellAt near₀ marked₀ j)
 
 abbrev μ-loop : tie.MeasureT-loop

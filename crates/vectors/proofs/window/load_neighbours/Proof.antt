@@ -6,7 +6,7 @@ use native.Mathlib.Omega.{arith}
 use borrow.Author.Count.{below-more}
 use borrow.Author.Tests.{ltb-true}
 use Rattle.picture.proofs.Laws.{inside-row, both-true}
-use Rattle.picture.specs.InnerField.{fieldOf}
+use Rattle.picture.specs.InnerField.{lentField}
 use Rattle.vectors.specs.Predict.{cellAt, aboveLeftOf}
 use Rattle.vectors.specs.InnerWindow.{Window}
 use Rattle.vectors.proofs.window.load_neighbours.Statement.{statement}
@@ -15,7 +15,7 @@ use Rattle.vectors.proofs.window.load_neighbours.Tie as tie
 abbrev Inv-loop : tie.InvT-loop
 Inv-loop near₀ marked₀ mv marks cols column row whole r₀ near marked r =
     (r ≤ 5) × Window near marked
-    × ((rows : ℕ) → row < rows → (q : ℕ) → q < r → (c : ℕ) → c < 6 → cellAt near marked (q * 6 + c) ≡ aboveLeftOf (fieldOf cols rows mv marks) (4 * column + c) (4 * row + q))
+    × ((rows : ℕ) → row < rows → (q : ℕ) → q < r → (c : ℕ) → c < 6 → cellAt near marked (q * 6 + c) ≡ aboveLeftOf (lentField cols rows mv marks) (4 * column + c) (4 * row + q))
 
 abbrev μ-loop : tie.MeasureT-loop
 μ-loop near₀ marked₀ mv marks cols column row whole r₀ near marked r = 5 - r
