@@ -44,7 +44,7 @@ owns-more {l} l₀ vs s x y whose r e f =
     rows-more l₀ (2 * s) (2 * x) y (λ d. ownNumber vs (whose / 2 ^ (16 * d))) 8 r e (f ∙ ap (λ k. row l k (ownNumber vs (whose / 2 ^ (16 * r))) 8) p)
 
 -- a skip, and any other mode
-pub skip-field : (r : Record) (f : Field) → r .head .mode ≡ 0 → appliedField r f ≡ storedField f (4 * r .head .column) (4 * r .head .row) 4 4 (pos 0) (pos 0)
+skip-field : (r : Record) (f : Field) → r .head .mode ≡ 0 → appliedField r f ≡ storedField f (4 * r .head .column) (4 * r .head .row) 4 4 (pos 0) (pos 0)
 unfolding appliedField if_then_else_
 skip-field r f e = rw (eq-eqb (r .head .mode) 0 e)
 

@@ -28,7 +28,7 @@ use Rattle.apply.specs.Moved.{unit, partX, partY, vectorX, vectorY, move
 use Rattle.apply.specs.InnerMoved.{planeLength, partBlock}
 
 -- a rectangle inside another
-pub sub-inside : {st x y W H size : ℕ} (a b w h : ℕ) → Inside st x y W H size → a + w ≤ W → b + h ≤ H → Inside st (x + a) (y + b) w h size
+sub-inside : {st x y W H size : ℕ} (a b w h : ℕ) → Inside st x y W H size → a + w ≤ W → b + h ≤ H → Inside st (x + a) (y + b) w h size
 sub-inside {st} {x} {y} {W} {H} {size} a b w h i p q =
     let d : (y + b + h) * st ≤ (y + H) * st = mul-le-mul-right st (omega arith) in
     record { some = i .some; across = omega (arith, i .across); down = le-trans d (i .down) }
@@ -39,7 +39,7 @@ toward-one (pos a) = ap pos (div-one a)
 toward-one (negsuc a) = rw (div-one (suc a))
 
 -- n samples of a macroblock each way make a plane
-pub plane-whole : (n : ℕ) {cols rows column row : ℕ} → 0 < n → n ≤ 16 → Within cols rows column row → Whole (n * cols) (n * rows) (n * n * (cols * rows))
+plane-whole : (n : ℕ) {cols rows column row : ℕ} → 0 < n → n ≤ 16 → Within cols rows column row → Whole (n * cols) (n * rows) (n * n * (cols * rows))
 plane-whole n {cols} {rows} z m g =
     let w : n * cols ≤ 16 * cols = mul-le-mul-right cols m in
     let h : n * rows ≤ 16 * rows = mul-le-mul-right rows m in
@@ -56,7 +56,7 @@ halves : (chroma : Bool) (m o : ℕ) → (16 * m + o) / unit chroma ≡ 16 / uni
 halves true m o = omega arith
 halves false m o = omega (arith, div-one (16 * m + o), div-one o)
 
-pub side : (chroma : Bool) → (0 < 16 / unit chroma) × (16 / unit chroma ≤ 16)
+side : (chroma : Bool) → (0 < 16 / unit chroma) × (16 / unit chroma ≤ 16)
 side true = (lit< tt, lit≤ tt)
 side false = (lit< tt, lit≤ tt)
 
@@ -66,18 +66,18 @@ module _ (cols rows : ℕ) (call : Call) (i : ℕ) (g : Within cols rows (call .
   part true = inside-units 1 (call .mode) i (lit≤ tt) mode among
   part false = inside-units 0 (call .mode) i (lit≤ tt) mode among
 
-  pub part-inside : (chroma : Bool) → Inside (16 / unit chroma * cols) (partX (unit chroma) call i) (partY (unit chroma) call i) (partitionWidth (call .mode) / unit chroma) (partitionHeight (call .mode) / unit chroma) (planeLength (unit chroma) cols rows)
+  part-inside : (chroma : Bool) → Inside (16 / unit chroma * cols) (partX (unit chroma) call i) (partY (unit chroma) call i) (partitionWidth (call .mode) / unit chroma) (partitionHeight (call .mode) / unit chroma) (planeLength (unit chroma) cols rows)
   unfolding partX partY
   part-inside chroma =
       rw (halves chroma (call .column) (offsetX (call .mode) i), halves chroma (call .row) (offsetY (call .mode) i))
       (sub-inside _ _ _ _ (macroblock-inside (16 / unit chroma) (side chroma .0) (g .across) (g .down)) (part chroma .0) (part chroma .1))
 
-  pub part-span : (chroma : Bool) → Span (partitionWidth (call .mode) / unit chroma) (partitionHeight (call .mode) / unit chroma)
+  part-span : (chroma : Bool) → Span (partitionWidth (call .mode) / unit chroma) (partitionHeight (call .mode) / unit chroma)
   part-span true = let k = cut 1 (call .mode) (lit≤ tt) mode in record { across = (k .wide, omega (arith, part true .0)); down = (k .high, omega (arith, part true .1)) }
   part-span false = let k = cut 0 (call .mode) (lit≤ tt) mode in record { across = (k .wide, omega (arith, part false .0)); down = (k .high, omega (arith, part false .1)) }
 
   -- a place of a plane fits 17 bits
-  pub part-small : (chroma : Bool) → (partX (unit chroma) call i < 131072) × (partY (unit chroma) call i < 131072)
+  part-small : (chroma : Bool) → (partX (unit chroma) call i < 131072) × (partY (unit chroma) call i < 131072)
   unfolding partX partY
   part-small true = let p = inside (call .mode) i mode among in (omega (arith, g .across, g .wide), omega (arith, g .down, g .high))
   part-small false = let p = inside (call .mode) i mode among in (omega (arith, g .across, g .wide, div-one (16 * call .column + offsetX (call .mode) i)), omega (arith, g .down, g .high, div-one (16 * call .row + offsetY (call .mode) i)))
@@ -115,7 +115,7 @@ pub few : (chroma : Bool) (n m : ℕ) → n ≡ 16 / unit chroma → m ≤ 4096 
 few chroma n m e h = let k : n * m ≤ 16 * m = mul-le-mul-right m (omega (arith, side chroma .1)) in omega arith
 
 -- the plane keeps its length
-pub moved-length : (u cols rows : ℕ) (ref : List ℕ) (call : Call) (vs : List ℤ) (i : ℕ) (pic : List ℕ) → length (movedOnce u cols rows ref call vs i pic) ≡ length pic
+moved-length : (u cols rows : ℕ) (ref : List ℕ) (call : Call) (vs : List ℤ) (i : ℕ) (pic : List ℕ) → length (movedOnce u cols rows ref call vs i pic) ≡ length pic
 unfolding movedOnce
 moved-length u cols rows ref call vs i pic = painted-length _ _ _ _ _ _ pic
 

@@ -34,7 +34,7 @@ passed-half w n k s h shown =
     subst (λ (x : ℕ). Shows x (n - k) (drop k s)) e (passed (w * 2 ^ 32) n k s h shown)
 
 -- fewer bits are shown too
-pub shows-fewer : (w n k : ℕ) (s : List Bool) → k ≤ n → Shows w n s → Shows w k s
+shows-fewer : (w n k : ℕ) (s : List Bool) → k ≤ n → Shows w n s → Shows w k s
 shows-fewer w n k s h shown =
     let e : n ≡ k + (n - k) = omega arith in
     record {
@@ -51,7 +51,7 @@ top-nine w =
     let o : w * 2 ^ 32 * 2 ^ 8 / 2 ^ 63 % 2 ≡ w / 2 ^ 23 % 2 = omega arith in
     top-add 8 1 (w * 2 ^ 32) ∙ ap₂ (λ x y. x ++ y) (top-byte (w * 2 ^ 32) ∙ ap byteBits b) (ap (λ (k : ℕ). eqb k 1 ∷ []) o)
 
-pub starts-nine : (w n : ℕ) (s : List Bool) → 9 ≤ n → Shows (w * 2 ^ 32) n s → (t : List Bool) × (s ≡ byteBits (w / 2 ^ 23 / 2) ++ odd (w / 2 ^ 23) ∷ t)
+starts-nine : (w n : ℕ) (s : List Bool) → 9 ≤ n → Shows (w * 2 ^ 32) n s → (t : List Bool) × (s ≡ byteBits (w / 2 ^ 23 / 2) ++ odd (w / 2 ^ 23) ∷ t)
 starts-nine w n s h shown =
     let f = shows-fewer (w * 2 ^ 32) n 9 s h shown in
     (f .rest, f .starts ∙ ap (λ (t : List Bool). t ++ f .rest) (top-nine w))

@@ -49,7 +49,7 @@ value-half : (a : ℕ) (d : Bool) → (2 * a + bitValue d) / 2 ≡ a
 value-half a true = omega arith
 value-half a false = omega arith
 
-pub length-marked : (n m : ℕ) → length (marked n m) ≡ 2 * n + 1
+length-marked : (n m : ℕ) → length (marked n m) ≡ 2 * n + 1
 unfolding marked
 length-marked zero m = refl
 length-marked (suc n) m = omega (arith, length-marked n m)

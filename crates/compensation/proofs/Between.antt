@@ -51,7 +51,7 @@ module _ {lo hi : ℕ} where
       (either (ltb px 3) (corner-between r s p q) (corner-between s r q p))
 
   -- between any bounds of the taps
-  pub formula-between : (px py : ℕ) {a b c d : ℕ} → Between lo hi a → Between lo hi b → Between lo hi c → Between lo hi d → Between lo hi (formula px py a b c d)
+  formula-between : (px py : ℕ) {a b c d : ℕ} → Between lo hi a → Between lo hi b → Between lo hi c → Between lo hi d → Between lo hi (formula px py a b c d)
   unfolding formula
   formula-between px py p q r s =
       either (eqb py 0) (along-between px p q)
@@ -67,7 +67,7 @@ least a b c d = min (min a b) (min c d)
 abbrev pub greatest : ℕ → ℕ → ℕ → ℕ → ℕ
 greatest a b c d = max (max a b) (max c d)
 
-pub formula-taps : (px py a b c d : ℕ) → Between (least a b c d) (greatest a b c d) (formula px py a b c d)
+formula-taps : (px py a b c d : ℕ) → Between (least a b c d) (greatest a b c d) (formula px py a b c d)
 formula-taps px py a b c d = formula-between px py (omega arith) (omega arith) (omega arith) (omega arith)
 
 -- of the sample at any position, on any plane

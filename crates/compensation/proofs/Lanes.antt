@@ -17,7 +17,7 @@ use Rattle.compensation.specs.declared.kernel.Mix.{Mix}
 
 -- ---- lane k of a tile of w columns: row k / w, column k % w
 module _ {w : ℕ} (some : 0 < w) where
-  pub lane-row : (h k : ℕ) → k < w * h → k / w < h
+  lane-row : (h k : ℕ) → k < w * h → k / w < h
   lane-row h k l = div-lt-iff-lt-mul some .1 (rw (mul-comm h w) l)
 
   -- no place is further than the last column of the last row
@@ -35,7 +35,7 @@ module _ {w : ℕ} (some : 0 < w) where
       let e : k + 1 ≡ suc (k / w) * w + 0 = omega (arith, div-add-mod' k w, add-mul (k / w) 1 w) in
       (ap (λ n. n / w) e ∙ digits-div (suc (k / w)) some, ap (λ n. n % w) e ∙ digits-mod (suc (k / w)) some)
 
-pub tile-lane : (w h r c : ℕ) → r < h → c < w → r * w + c < w * h
+tile-lane : (w h r c : ℕ) → r < h → c < w → r * w + c < w * h
 tile-lane w h r c lr lc = omega (arith, more w lr, mul-comm h w)
 
 -- lane k, by its row and column

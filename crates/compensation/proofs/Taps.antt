@@ -70,7 +70,7 @@ module _ (n : ℕ) where
   origin-le (negsuc a) h = omega (arith, origin-neg a)
 
   -- no tap of a block of at most 16 can tell that its place was held
-  pub near-place : (z : ℤ) (c : ℕ) → c ≤ 16 → near n (originOf n z + c) ≡ nearest n (z +ℤ pos c)
+  near-place : (z : ℤ) (c : ℕ) → c ≤ 16 → near n (originOf n z + c) ≡ nearest n (z +ℤ pos c)
   unfolding near
   near-place (pos a) c k = omega (arith, origin-pos a, nearest-pos (a + c))
   near-place (negsuc a) c k =
@@ -98,7 +98,7 @@ module _ (n : ℕ) (x v : ℤ) (c : ℕ) where
       near-place n (x +ℤ floorZ v 6) (c + 1) (omega arith) ∙ ap (nearest n) (d ∙ ap (λ (u : ℤ). u +ℤ pos 1) whole)
 
 -- the window's sample is the block's
-pub window-sample : (plane : List ℕ) (width height : ℕ) (x y vx vy : ℤ) (r c : ℕ) → r < 16 → c < 16 → windowBlock (formula (modZ vx 6) (modZ vy 6)) plane width height (originOf width (x +ℤ floorZ vx 6)) (originOf height (y +ℤ floorZ vy 6)) r c ≡ blockSample plane width height x y vx vy r c
+window-sample : (plane : List ℕ) (width height : ℕ) (x y vx vy : ℤ) (r c : ℕ) → r < 16 → c < 16 → windowBlock (formula (modZ vx 6) (modZ vy 6)) plane width height (originOf width (x +ℤ floorZ vx 6)) (originOf height (y +ℤ floorZ vy 6)) r c ≡ blockSample plane width height x y vx vy r c
 unfolding windowBlock windowAt lineAt blockSample sampleAt tap
 window-sample plane width height x y vx vy r c lr lc =
     let at : ℕ → ℕ → ℕ = λ b a. getD plane (b * width + a) 0 in
@@ -108,7 +108,7 @@ window-sample plane width height x y vx vy r c lr lc =
     let b′ = second height y vy r lr in
     λ i. formula (phase width x vx c i) (phase height y vy r i) (at (b i) (a i)) (at (b i) (a′ i)) (at (b′ i) (a i)) (at (b′ i) (a′ i))
 
-pub placed-sample : (plane : List ℕ) (width height : ℕ) {x y vx vy ox oy : ℤ} {px py : ℕ} → Placed x y vx vy ox oy px py → (r c : ℕ) → r < 16 → c < 16 → windowBlock (formula px py) plane width height (originOf width ox) (originOf height oy) r c ≡ blockSample plane width height x y vx vy r c
+placed-sample : (plane : List ℕ) (width height : ℕ) {x y vx vy ox oy : ℤ} {px py : ℕ} → Placed x y vx vy ox oy px py → (r c : ℕ) → r < 16 → c < 16 → windowBlock (formula px py) plane width height (originOf width ox) (originOf height oy) r c ≡ blockSample plane width height x y vx vy r c
 placed-sample plane width height {x} {y} {vx} {vy} p r c lr lc = rw (p .across-phase, p .down-phase, p .across, p .down) (window-sample plane width height x y vx vy r c lr lc)
 
 pub placed-block : (plane : List ℕ) (width height : ℕ) {x y vx vy ox oy : ℤ} {px py : ℕ} → Placed x y vx vy ox oy px py → (stride dx dy w h : ℕ) (l : List ℕ) → Span w h
@@ -192,7 +192,7 @@ module _ (plane : List ℕ) (width height a b : ℕ) where
       rw (e, f, i)
 
   -- the last tap is there
-  pub inside-room : (w h e : ℕ) → Whole width height (length plane) → 0 < h → b + (h + e) ≤ height → a + (w + e) ≤ width → b * width + a + (h - 1 + e) * width + w + e ≤ length plane
+  inside-room : (w h e : ℕ) → Whole width height (length plane) → 0 < h → b + (h + e) ≤ height → a + (w + e) ≤ width → b * width + a + (h - 1 + e) * width + w + e ≤ length plane
   inside-room w h e full some k k′ =
       let last : (b + (h - 1 + e)) * width + width ≤ height * width = more width (omega arith) in
       omega (arith, add-mul b (h - 1 + e) width, mul-comm height width)
@@ -202,7 +202,7 @@ module _ (plane : List ℕ) (width height a b : ℕ) where
   unfolding fourBlock fourRow fourAt windowBlock formula along if_then_else_
   inside-whole r c lr lc = inside-tap r c lr lc
 
-  pub inside-sample : (px py r c w h : ℕ) → b + (h + extra px py) ≤ height → a + (w + extra px py) ≤ width → r < h → c < w
+  inside-sample : (px py r c w h : ℕ) → b + (h + extra px py) ≤ height → a + (w + extra px py) ≤ width → r < h → c < w
       → fourBlock (formula px py) plane width (b * width + a) r c ≡ windowBlock (formula px py) plane width height (a + 17) (b + 17) r c
   unfolding windowBlock
   inside-sample px py r c w h k k′ lr lc =
@@ -225,14 +225,14 @@ module _ (o : ℤ) (n side : ℕ) (small : side ≤ 65536) (e : liesIn o n side 
   same : read w64 o ≡ o
   same = toZ-ofZ (record { sfits = rw (one .0) (omega (arith, one .1)) })
 
-  pub lies-read : read w64 o ≡ pos placed-at
+  lies-read : read w64 o ≡ pos placed-at
   lies-read = same ∙ one .0 ∙ ap (λ (z : ℤ). pos (natAbs z)) (sym same)
 
-  pub lies-room : placed-at + n ≤ side
+  lies-room : placed-at + n ≤ side
   lies-room = rw same (one .1)
 
   -- it is not held
-  pub lies-origin : 0 < n → originOf side o ≡ placed-at + 17
+  lies-origin : 0 < n → originOf side o ≡ placed-at + 17
   lies-origin some = ap (originOf side) (sym same ∙ lies-read) ∙ origin-pos side placed-at ∙ omega (arith, lies-room)
 
 -- ---- a block that says that its taps lie inside

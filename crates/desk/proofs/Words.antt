@@ -18,11 +18,11 @@ use Rattle.ints.proofs.Fits.{sub-ind, neg-pos, cast-unsigned}
 use Rattle.ints.proofs.Same.{reads}
 use Rattle.desk.specs.Counts.{wordOf}
 
-pub record Negative (z : ℤ) : Type 0 where
-  pub n : ℕ
-  pub is : z ≡ negsuc n
+record Negative (z : ℤ) : Type 0 where
+  n : ℕ
+  is : z ≡ negsuc n
 
-pub negative : (z : ℤ) → ltZ z (pos 0) ≡ true → Negative z
+negative : (z : ℤ) → ltZ z (pos 0) ≡ true → Negative z
 negative (pos n) e = absurd (omega (arith, ltb-true n 0 e))
 negative (negsuc n) e = record { n = n; is = refl }
 

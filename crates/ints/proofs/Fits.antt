@@ -66,7 +66,7 @@ mag-abs : (z : ℤ) → mag z ≤ natAbs z
 mag-abs (pos a) = omega arith
 mag-abs (negsuc a) = omega arith
 
-pub abs-mag : (z : ℤ) → natAbs z ≤ mag z + 1
+abs-mag : (z : ℤ) → natAbs z ≤ mag z + 1
 abs-mag (pos a) = omega arith
 abs-mag (negsuc a) = omega arith
 

@@ -38,7 +38,7 @@ or-no : (s t : Bool) → (s || t) ≡ false → (s ≡ false) × (t ≡ false)
 or-no true t e = absurd (true≢false e)
 or-no false t e = (refl, e)
 
-pub over-no : (z : ℤ) → overZ z ≡ false → SFits w32 z
+over-no : (z : ℤ) → overZ z ≡ false → SFits w32 z
 unfolding overZ
 over-no z e = let k = or-no (ltZ z leastI32) (ltZ mostI32 z) e in record { sfits = omega (arith, z-rules, mag-z z) }
 
@@ -57,7 +57,7 @@ pub clip1-le : (z : ℤ) → clip1Z z ≤ 255
 clip1-le z = omega (arith, clip1-z z)
 
 -- ---- multiples
-pub times-add : (k : ℕ) (a b : ℤ) → pos k *ℤ (a +ℤ b) ≡ pos k *ℤ a +ℤ pos k *ℤ b
+times-add : (k : ℕ) (a b : ℤ) → pos k *ℤ (a +ℤ b) ≡ pos k *ℤ a +ℤ pos k *ℤ b
 times-add k a b =
     omega (
       arith,
@@ -74,7 +74,7 @@ times-add k a b =
     )
 
 -- ---- rounded down
-pub floor-mod : (k : ℕ) (z : ℤ) → 0 < k → z ≡ pos k *ℤ floorZ z k +ℤ pos (modZ z k)
+floor-mod : (k : ℕ) (z : ℤ) → 0 < k → z ≡ pos k *ℤ floorZ z k +ℤ pos (modZ z k)
 floor-mod k z h = omega (arith, z-rules, floor-z k z h, add-z (pos k *ℤ floorZ z k) (pos (modZ z k)), times-z k (floorZ z k))
 
 mag-floor : (z : ℤ) (k : ℕ) → mag (floorZ z k) ≤ mag z
@@ -92,7 +92,7 @@ quotient : (k n r : ℕ) → r < k → ((k * n + r) / k ≡ n) × ((k * n + r) %
 quotient k n r h = (mul-add-div (omega arith) n r ∙ omega (arith, div-eq-of-lt h), mul-add-mod-self-left k n r ∙ mod-eq-of-lt h)
 
 -- only this quotient and this remainder
-pub floor-unique : (k : ℕ) (z a : ℤ) (r : ℕ) → r < k → z ≡ pos k *ℤ a +ℤ pos r → (floorZ z k ≡ a) × (modZ z k ≡ r)
+floor-unique : (k : ℕ) (z a : ℤ) (r : ℕ) → r < k → z ≡ pos k *ℤ a +ℤ pos r → (floorZ z k ≡ a) × (modZ z k ≡ r)
 unfolding floorZ modZ
 floor-unique k (pos m) (pos n) r h e =
     let s : m ≡ k * n + r = omega (arith, z-rules, e, add-z (pos k *ℤ pos n) (pos r), times-z k (pos n)) in
@@ -115,7 +115,7 @@ pub add-diff : (a d b : ℤ) → a +ℤ d ≡ b → d ≡ b -ℤ a
 add-diff a d b e = omega (arith, z-rules, e, add-z a d, diff-z b a)
 
 -- ---- what a call of `hold`, `sat_add` or `sat_mul` gave, field by field: `value-of _ (c .sat-add .ensures)`
-pub value-of : {r : Held} (z : ℤ) → r ≡ heldZ z → r .value ≡ satZ z
+value-of : {r : Held} (z : ℤ) → r ≡ heldZ z → r .value ≡ satZ z
 unfolding heldZ
 value-of z e = ap (λ h. h .value) e
 

@@ -132,12 +132,12 @@ pub min-z : (x y : ℤ) → up (minZ x y) + (down x + down y) ≡ down (minZ x y
 unfolding minZ
 min-z x y = if-ind (λ z. up z + (down x + down y) ≡ down z + min (up x + down y) (up y + down x)) (ltZ x y) x y (λ e. omega (arith, z-rules)) (λ e. omega (arith, z-rules))
 
-pub max-z : (x y : ℤ) → up (maxZ x y) + (down x + down y) ≡ down (maxZ x y) + max (up x + down y) (up y + down x)
+max-z : (x y : ℤ) → up (maxZ x y) + (down x + down y) ≡ down (maxZ x y) + max (up x + down y) (up y + down x)
 unfolding maxZ
 max-z x y = if-ind (λ z. up z + (down x + down y) ≡ down z + max (up x + down y) (up y + down x)) (ltZ x y) y x (λ e. omega (arith, z-rules)) (λ e. omega (arith, z-rules))
 
 -- a clamp with lo ≤ hi is a maximum of a minimum; name `min-z hi z` beside it
-pub clamp-is : (lo hi z : ℤ) → ltZ hi lo ≡ false → clampZ lo hi z ≡ maxZ lo (minZ hi z)
+clamp-is : (lo hi z : ℤ) → ltZ hi lo ≡ false → clampZ lo hi z ≡ maxZ lo (minZ hi z)
 clamp-is lo hi z h =
     clamp-ind
     (λ c. c ≡ maxZ lo (minZ hi z))

@@ -70,7 +70,7 @@ run-below book k =
     (λ h. rw (escape-run book k h) (positions-some book (half k)))
 
 -- a code other than 0 has a magnitude other than 0
-pub magnitude-some : (book : ResidualBook) (k : ℕ) → 0 < k → 0 < magnitude book k
+magnitude-some : (book : ResidualBook) (k : ℕ) → 0 < k → 0 < magnitude book k
 unfolding magnitudeRight magnitude magnitudes escapeMagnitude
 magnitude-some book k s =
     by-code (λ k. 0 < magnitude book k) book k
@@ -108,7 +108,7 @@ escape-odd ChromaDc k h =
     (λ e. by-escape ChromaDc ((k - 29) / 8 + 3) 3 (omega arith) ∙ omega arith)
     refl
 
-pub odd-of-code : (book : ResidualBook) (k : ℕ) → oddCode book (magnitude book k) (run book k) ≡ 2 * half k - 1
+odd-of-code : (book : ResidualBook) (k : ℕ) → oddCode book (magnitude book k) (run book k) ≡ 2 * half k - 1
 unfolding oddRight oddCode magnitude magnitudes run runs least entryOf escapeMagnitude
 odd-of-code book k =
     by-code (λ k. oddCode book (magnitude book k) (run book k) ≡ 2 * half k - 1) book k
@@ -116,9 +116,9 @@ odd-of-code book k =
     (λ h. rw (escape-magnitude book k h, escape-run book k h) (escape-odd book k h))
 
 -- ---- the odd code of a magnitude and a run says them, and so does the even code after it
-pub record Says (book : ResidualBook) (m r p : ℕ) : Type 0 where
-  pub odd : p % 2 ≡ 1
-  pub says : (k : ℕ) → half k ≡ half p → (magnitude book k ≡ m) × (run book k ≡ r)
+record Says (book : ResidualBook) (m r p : ℕ) : Type 0 where
+  odd : p % 2 ≡ 1
+  says : (k : ℕ) → half k ≡ half p → (magnitude book k ≡ m) × (run book k ≡ r)
 
 goodEntry : ResidualBook → ℕ → ℕ → ℕ → Bool
 goodEntry book m r e = eqb (getD (magnitudes book) e 0) m && eqb (getD (runs book) e 0) r && (ltb 0 e && ltb (2 * e) (escape book))
@@ -180,7 +180,7 @@ escape-says ChromaDc m r h l =
     (λ l. chroma-says m 3 3 (lit< tt) refl (lit< tt) (omega arith) (omega arith))
     l
 
-pub odd-says : (book : ResidualBook) (m r : ℕ) → 0 < m → r < positions book → Says book m r (oddCode book m r)
+odd-says : (book : ResidualBook) (m r : ℕ) → 0 < m → r < positions book → Says book m r (oddCode book m r)
 odd-says book (suc n) r s h = go (ltb (suc n) (getD (least book) r 0)) refl
   where
     go : (t : Bool) → ltb (suc n) (getD (least book) r 0) ≡ t → Says book (suc n) r (oddCode book (suc n) r)
@@ -247,7 +247,7 @@ most ChromaDc = 2 ^ 29 + 1
 mostRight : ResidualBook → ℕ → Bool
 mostRight book k = leb (magnitude book k) (most book)
 
-pub magnitude-most : (book : ResidualBook) (k : ℕ) → k < 2 ^ 32 - 1 → magnitude book k ≤ most book
+magnitude-most : (book : ResidualBook) (k : ℕ) → k < 2 ^ 32 - 1 → magnitude book k ≤ most book
 unfolding mostRight magnitude magnitudes escapeMagnitude
 magnitude-most book k b =
     by-code (λ k. magnitude book k ≤ most book) book k

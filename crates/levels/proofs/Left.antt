@@ -87,7 +87,7 @@ module _ (pattern : ℕ) where
       go true t = left-coded n i ls s t ∙ list (readItem i s) (sym (read-coded n i ls s t) ∙ e)
       go false t = left-passed n i ls s t ∙ behind ls s xs k (sym (read-passed n i ls s t) ∙ e)
 
-  pub left-read : (n i : ℕ) → Agree n i
+  left-read : (n i : ℕ) → Agree n i
   unfolding readItems readLists leftItems
   left-read zero i = λ ls s xs k e. got-value e
   left-read (suc n) i = agree-more n i (left-read n (suc i))
@@ -163,13 +163,13 @@ module _ (read : List ℤ → List Bool → Got (List ℤ)) (left : List ℤ →
   goes-all = record { goes = rest-all (read ls₀ (drop at s)) at; keeps = refl }
 
 module _ {read : List ℤ → List Bool → Got (List ℤ)} {left : List ℤ → List Bool → List ℤ} {ls₀ : List ℤ} {s : List Bool} {at : ℕ} where
-  pub goes-is : {p : ℕ} {a b : Got (List ℤ)} {x y : List ℤ} → a ≡ b → x ≡ y → Goes read left ls₀ s at p a x → Goes read left ls₀ s at p b y
+  goes-is : {p : ℕ} {a b : Got (List ℤ)} {x y : List ℤ} → a ≡ b → x ≡ y → Goes read left ls₀ s at p a x → Goes read left ls₀ s at p b y
   goes-is e f g = record { goes = rest-is e (g .goes); keeps = g .keeps ∙ f }
 
   -- a part, which leaves `stop` where it is refused, then what f reads and k leaves behind it
   module _ (p : ℕ) (part : Got (List ℤ)) (stop : List ℤ) (f : List ℤ → List Bool → Got (List ℤ)) (k : List ℤ → List Bool → List ℤ)
       (g : Goes read left ls₀ s at p (andThen part (drop p s) f) (orStop part (drop p s) stop k)) (answer : ListAnswer) (out : List ℤ) (l : Left p part answer out) where
-    pub goes-on : (next : ℕ) → answer ≡ End next → Goes read left ls₀ s at next (f out (drop next s)) (k out (drop next s))
+    goes-on : (next : ℕ) → answer ≡ End next → Goes read left ls₀ s at next (f out (drop next s)) (k out (drop next s))
     goes-on next a =
         let e = ended p part next out (rw a at l) in
         record {
@@ -177,7 +177,7 @@ module _ {read : List ℤ → List Bool → Got (List ℤ)} {left : List ℤ →
           keeps = g .keeps ∙ ap (λ (b : Got (List ℤ)). orStop b (drop p s) stop k) (e .is) ∙ ap (k out) (drop-drop (e .taken) p s ∙ ap (λ (n : ℕ). drop n s) (sym (e .moved)));
         }
 
-    pub goes-stop : (r : Refusal) → answer ≡ Refused r → out ≡ stop → Leaves read left ls₀ s at (Refused r) out
+    goes-stop : (r : Refusal) → answer ≡ Refused r → out ≡ stop → Leaves read left ls₀ s at (Refused r) out
     goes-stop r a o =
         let e = refused-by p part r out (rw a at l) in
         record {

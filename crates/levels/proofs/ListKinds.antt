@@ -65,7 +65,7 @@ is-ac i h =
     record { book = rw (a, b); count = rw (a, b); start = rw b; place = rw (a, b); coded = λ pattern. rw (a, b) }
 
 -- ---- of each kind
-pub few : (book : ResidualBook) → (4 ≤ positions book) × (positions book ≤ 16)
+few : (book : ResidualBook) → (4 ≤ positions book) × (positions book ≤ 16)
 few NormalScan = (lit< tt, lit< tt)
 few ChromaDc = (lit< tt, lit< tt)
 

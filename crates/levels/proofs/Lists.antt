@@ -36,11 +36,11 @@ pub within : (i : ℕ) → i < 26 → itemPlace i + itemCount i ≤ 392
 unfolding rightEnd itemPlace itemCount itemBook if_then_else_
 within i h = leb→le (itemPlace i + itemCount i) 392 (at rightEnd 26 tt i h)
 
-pub first-place : itemPlace 0 ≡ 0
+first-place : itemPlace 0 ≡ 0
 unfolding itemPlace if_then_else_
 first-place = refl
 
-pub last-place : itemPlace 26 ≡ 392
+last-place : itemPlace 26 ≡ 392
 unfolding itemPlace if_then_else_
 last-place = refl
 
@@ -49,7 +49,7 @@ pub length-noLevels : length noLevels ≡ 392
 unfolding noLevels
 length-noLevels = refl
 
-pub no-item : (i : ℕ) → i < 26 → itemLevels noLevels i ≡ zeros (itemCount i)
+no-item : (i : ℕ) → i < 26 → itemLevels noLevels i ≡ zeros (itemCount i)
 unfolding itemLevels noLevels
 no-item i h = part-of-same (itemCount i) (itemPlace i) 392 (pos 0) (within i h)
 
@@ -58,18 +58,18 @@ module _ (ls : List ℤ) (i : ℕ) (xs : List ℤ) (whole : length ls ≡ 392) (
   fits : itemPlace i + length xs ≤ length ls
   fits = omega (arith, within i h)
 
-  pub through : take (itemPlace (suc i)) (sets ls (itemPlace i) xs) ≡ take (itemPlace i) ls ++ xs
+  through : take (itemPlace (suc i)) (sets ls (itemPlace i) xs) ≡ take (itemPlace i) ls ++ xs
   through = ap (λ (n : ℕ). take n (sets ls (itemPlace i) xs)) (next-place i h ∙ ap (λ (n : ℕ). itemPlace i + n) (sym e)) ∙ take-through ls (itemPlace i) xs fits
 
   -- whatever agrees with it up to the next place has it
-  pub put-item : (x : List ℤ) → length x ≡ 392 → take (itemPlace (suc i)) x ≡ take (itemPlace (suc i)) (sets ls (itemPlace i) xs) → itemLevels x i ≡ xs
+  put-item : (x : List ℤ) → length x ≡ 392 → take (itemPlace (suc i)) x ≡ take (itemPlace (suc i)) (sets ls (itemPlace i) xs) → itemLevels x i ≡ xs
   unfolding itemLevels
   put-item x n p =
       part-after (itemPlace i) (itemCount i) x (take (itemPlace i) ls) xs (length-take-le (itemPlace i) ls (omega (arith, within i h))) (omega (arith, within i h))
       (ap (λ (k : ℕ). take k x) (sym (next-place i h)) ∙ p ∙ through)
 
 -- a later place
-pub place-le : (i j : ℕ) → i < 26 → i < j → j < 26 → itemPlace i + itemCount i ≤ itemPlace j
+place-le : (i j : ℕ) → i < 26 → i < j → j < 26 → itemPlace i + itemCount i ≤ itemPlace j
 place-le i zero h k l = absurd (omega arith)
 place-le i (suc j) h k l = ⊎-elim
     (λ (e : i ≡ j). rw (← e) (omega (arith, next-place i h)))
@@ -77,12 +77,12 @@ place-le i (suc j) h k l = ⊎-elim
     (eq-or-lt-of-le (omega arith))
 
 -- the lists behind it are as they were
-pub other-item : (ls : List ℤ) (i j : ℕ) (xs : List ℤ) → length xs ≡ itemCount i → i < j → j < 26 → itemLevels (sets ls (itemPlace i) xs) j ≡ itemLevels ls j
+other-item : (ls : List ℤ) (i j : ℕ) (xs : List ℤ) → length xs ≡ itemCount i → i < j → j < 26 → itemLevels (sets ls (itemPlace i) xs) j ≡ itemLevels ls j
 unfolding itemLevels
 other-item ls i j xs e h l = ap (take (itemCount j)) (drop-sets (itemPlace j) ls (itemPlace i) xs (omega (arith, place-le i j (omega arith) h l)))
 
 -- two that agree up to the next place have the same list there
-pub same-item : (x y : List ℤ) (i : ℕ) → i < 26 → length x ≡ 392 → length y ≡ 392 → take (itemPlace (suc i)) x ≡ take (itemPlace (suc i)) y → itemLevels x i ≡ itemLevels y i
+same-item : (x y : List ℤ) (i : ℕ) → i < 26 → length x ≡ 392 → length y ≡ 392 → take (itemPlace (suc i)) x ≡ take (itemPlace (suc i)) y → itemLevels x i ≡ itemLevels y i
 unfolding itemLevels
 same-item x y i h m n p =
     part-after (itemPlace i) (itemCount i) x (take (itemPlace i) y) (take (itemCount i) (drop (itemPlace i) y)) (length-take-le (itemPlace i) y (omega (arith, within i h))) (omega (arith, within i h))

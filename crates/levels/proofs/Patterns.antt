@@ -32,14 +32,14 @@ rightCode k = eqb (patternCode (getD patterns k 0)) k && ltb (getD patterns k 0)
 rightPattern : ℕ → Bool
 rightPattern v = eqb (getD patterns (patternCode v) 0) v && ltb (patternCode v) 48
 
-pub code-back : (k : ℕ) → k < 48 → (patternCode (getD patterns k 0) ≡ k) × PatternRange (getD patterns k 0)
+code-back : (k : ℕ) → k < 48 → (patternCode (getD patterns k 0) ≡ k) × PatternRange (getD patterns k 0)
 unfolding rightCode patterns placeOf
 code-back k h =
     let v = getD patterns k 0 in
     let t = at rightCode 48 tt k h in
     (eqb→eq (patternCode v) k (both-left (eqb (patternCode v) k) (ltb v 48) t), ltb→lt v 48 (both-right (eqb (patternCode v) k) (ltb v 48) t))
 
-pub pattern-back : (v : ℕ) → PatternRange v → (getD patterns (patternCode v) 0 ≡ v) × (patternCode v < 48)
+pattern-back : (v : ℕ) → PatternRange v → (getD patterns (patternCode v) 0 ≡ v) × (patternCode v < 48)
 unfolding rightPattern patterns placeOf
 pattern-back v h =
     let k = patternCode v in

@@ -47,7 +47,7 @@ coded-level-most book l r s h k = go (codeOfLevel book l r) k (resolve-code book
     go (suc c) b e = subst (λ (z : ℤ). natAbs z ≤ most book) (same-level book l r (suc c) (omega arith) e) (level-most book (suc c) b)
 
 -- each level of a coded list
-pub levels-most : (book : ResidualBook) (ls : List ℤ) (run : ℕ) → LevelsCoded book run ls → run + length ls ≤ positions book → (i : ℕ) → natAbs (getD ls i (pos 0)) ≤ most book
+levels-most : (book : ResidualBook) (ls : List ℤ) (run : ℕ) → LevelsCoded book run ls → run + length ls ≤ positions book → (i : ℕ) → natAbs (getD ls i (pos 0)) ≤ most book
 unfolding LevelsCoded
 levels-most book [] run c h i = omega arith
 levels-most book (l ∷ ls) run c h i = go (isZero l) refl c i (λ c. levels-most book ls (run + 1) c (omega arith)) (λ c. levels-most book ls 0 c (omega arith))

@@ -20,12 +20,12 @@ use Rattle.levels.proofs.ShortTable.{both-left, both-right, at}
 use Rattle.levels.proofs.Entries.{by-runs}
 
 -- ---- a list by its elements
-pub length-listOf : {A : Type 0} (n : ℕ) (f : ℕ → A) → length (listOf n f) ≡ n
+length-listOf : {A : Type 0} (n : ℕ) (f : ℕ → A) → length (listOf n f) ≡ n
 unfolding listOf
 length-listOf zero f = refl
 length-listOf (suc n) f = ap suc (length-listOf n (λ i. f (suc i)))
 
-pub getD-listOf : {A : Type 0} (n : ℕ) (f : ℕ → A) (i : ℕ) (d : A) → i < n → getD (listOf n f) i d ≡ f i
+getD-listOf : {A : Type 0} (n : ℕ) (f : ℕ → A) (i : ℕ) (d : A) → i < n → getD (listOf n f) i d ≡ f i
 unfolding listOf
 getD-listOf zero f i d h = absurd (omega arith)
 getD-listOf (suc n) f zero d h = refl
@@ -46,7 +46,7 @@ position-back book n h =
     let t = by-runs rightPosition tt tt book n h in
     (eqb→eq (placeOf p (scan book)) n (both-left (eqb (placeOf p (scan book)) n) (ltb p (positions book)) t), ltb→lt p (positions book) (both-right (eqb (placeOf p (scan book)) n) (ltb p (positions book)) t))
 
-pub place-back : (book : ResidualBook) (p : ℕ) → p < positions book → (getD (scan book) (placeOf p (scan book)) 0 ≡ p) × (placeOf p (scan book) < positions book)
+place-back : (book : ResidualBook) (p : ℕ) → p < positions book → (getD (scan book) (placeOf p (scan book)) 0 ≡ p) × (placeOf p (scan book) < positions book)
 unfolding rightPlace scan placeOf
 place-back book p h =
     let n = placeOf p (scan book) in
@@ -80,7 +80,7 @@ unfolding unraster
 unraster-at book bs n h = getD-listOf (positions book) (λ n. getD bs (getD (scan book) n 0) (pos 0)) n (pos 0) h
 
 -- position n of a list is the raster place at entry n of the scan
-pub position-placed : (book : ResidualBook) (ls : List ℤ) (n : ℕ) → n < positions book → getD (raster book ls) (getD (scan book) n 0) (pos 0) ≡ getD ls n (pos 0)
+position-placed : (book : ResidualBook) (ls : List ℤ) (n : ℕ) → n < positions book → getD (raster book ls) (getD (scan book) n 0) (pos 0) ≡ getD ls n (pos 0)
 position-placed book ls n h =
     let b = position-back book n h in
     raster-at book ls (getD (scan book) n 0) (b .1) ∙ ap (λ (i : ℕ). getD ls i (pos 0)) (b .0)

@@ -32,17 +32,17 @@ use Rattle.levels.proofs.Stores.{set-within, sets-over}
 use Rattle.levels.proofs.Steps.{level-run-format}
 
 -- ---- what the answer of a step says
-pub level-told : (p : ℕ) (g : Got LevelRun) (l : ℤ) (r q : ℕ) → step.Level l r q ≡ stepAnswer p g → Answered p g (Pair l r) q
+level-told : (p : ℕ) (g : Got LevelRun) (l : ℤ) (r q : ℕ) → step.Level l r q ≡ stepAnswer p g → Answered p g (Pair l r) q
 level-told p (got (Pair x y) n) l r q e = record { taken = n; is = ap₂ (λ a b. got (Pair a b) n) (cc) (cc); moved = cc }
 level-told p (got said.End n) l r q e = absurd (let z : _≡_ {A = ℕ} 0 1 = cc in omega arith)
 level-told p (refused x) l r q e = absurd (let z : _≡_ {A = ℕ} 0 1 = cc in omega arith)
 
-pub end-told : (p : ℕ) (g : Got LevelRun) (q : ℕ) → step.End q ≡ stepAnswer p g → Answered p g said.End q
+end-told : (p : ℕ) (g : Got LevelRun) (q : ℕ) → step.End q ≡ stepAnswer p g → Answered p g said.End q
 end-told p (got said.End n) q e = record { taken = n; is = refl; moved = cc }
 end-told p (got (Pair x y) n) q e = absurd (let z : _≡_ {A = ℕ} 0 1 = cc in omega arith)
 end-told p (refused x) q e = absurd (let z : _≡_ {A = ℕ} 0 1 = cc in omega arith)
 
-pub refused-told : (p : ℕ) (g : Got LevelRun) (x : Refusal) → step.Refused x ≡ stepAnswer p g → g ≡ refused x
+refused-told : (p : ℕ) (g : Got LevelRun) (x : Refusal) → step.Refused x ≡ stepAnswer p g → g ≡ refused x
 refused-told p (refused y) x e = ap refused (cc)
 refused-told p (got said.End n) x e = absurd (let z : _≡_ {A = ℕ} 0 1 = cc in omega arith)
 refused-told p (got (Pair a b) n) x e = absurd (let z : _≡_ {A = ℕ} 0 1 = cc in omega arith)
@@ -103,17 +103,17 @@ stands d r k i l e =
     sym (append-snoc (d ++ zeros r) l (zeros k))
 
 module _ {book : ResidualBook} {start at : ℕ} {s : List Bool} {out₀ : List ℤ} {base position p : ℕ} {out : List ℤ} (R : Reading book start at s out₀ base position p out) where
-  pub ends-refused : (x : Refusal) → levelRun book (drop p s) ≡ refused x → block book start (drop at s) ≡ refused x
+  ends-refused : (x : Refusal) → levelRun book (drop p s) ≡ refused x → block book start (drop at s) ≡ refused x
   ends-refused x e = rw (R .rest, from-refused book position (drop p s) (R .turns) x e)
 
-  pub ends-past : (n : ℕ) (l : ℤ) (r : ℕ) → levelRun book (drop p s) ≡ got (Pair l r) n → positions book ≤ position + r → block book start (drop at s) ≡ refused (LevelPosition (position + r))
+  ends-past : (n : ℕ) (l : ℤ) (r : ℕ) → levelRun book (drop p s) ≡ got (Pair l r) n → positions book ≤ position + r → block book start (drop at s) ≡ refused (LevelPosition (position + r))
   ends-past n l r e h = rw (R .rest, from-past book position (drop p s) (R .turns) n l r e h)
 
-  pub ends : (n : ℕ) → levelRun book (drop p s) ≡ got said.End n → block book start (drop at s) ≡ got (held book (R .done) position) (R .taken + n)
+  ends : (n : ℕ) → levelRun book (drop p s) ≡ got said.End n → block book start (drop at s) ≡ got (held book (R .done) position) (R .taken + n)
   ends n e = rw (R .rest, from-end book position (drop p s) (R .turns) n e, add-zero n)
 
   -- the run of what was read is below the positions, so that their sum fits
-  pub run-fits : (n : ℕ) (l : ℤ) (r : ℕ) → levelRun book (drop p s) ≡ got (Pair l r) n → r < positions book
+  run-fits : (n : ℕ) (l : ℤ) (r : ℕ) → levelRun book (drop p s) ≡ got (Pair l r) n → r < positions book
   run-fits n l r e = level-run-format book .came (drop p s) (Pair l r) n e .in-range .1
 
   module _ (n : ℕ) (l : ℤ) (r : ℕ) (e : levelRun book (drop p s) ≡ got (Pair l r) n) (h : position + r < positions book) where
@@ -155,7 +155,7 @@ module _ {book : ResidualBook} {start at : ℕ} {s : List Bool} {out₀ : List �
     unfolding more
     length-more = omega (arith, length-append (R .done ++ zeros r) (l ∷ []), length-append (R .done) (zeros r), length-replicate r (pos 0), R .so-far)
 
-    pub goes-on : Reading book start at s out₀ base (position + r + 1) (p + n) (set out (base + getD (scan book) (position + r) 0) l)
+    goes-on : Reading book start at s out₀ base (position + r + 1) (p + n) (set out (base + getD (scan book) (position + r) 0) l)
     goes-on = go (R .turns) refl
       where
         go : (turns : ℕ) → R .turns ≡ turns → Reading book start at s out₀ base (position + r + 1) (p + n) (set out (base + getD (scan book) (position + r) 0) l)

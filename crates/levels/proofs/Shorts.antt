@@ -77,10 +77,10 @@ module _ (book : ResidualBook) (e : ℕ) where
   abbrev right : ℕ → Bool
   right i = ltb 64 (entrySize e) || (sized && (inBook && coded i))
 
-  pub record Said (i : ℕ) : Type 0 where
-    pub some : 0 < entrySize e
-    pub few : entrySize e ≤ 7
-    pub says : (t : List Bool) → levelRun book (take (entrySize e) (sevenBits i) ++ t) ≡ got pair (entrySize e)
+  record Said (i : ℕ) : Type 0 where
+    some : 0 < entrySize e
+    few : entrySize e ≤ 7
+    says : (t : List Bool) → levelRun book (take (entrySize e) (sevenBits i) ++ t) ≡ got pair (entrySize e)
 
   said-by : (i : ℕ) → T (right i) → entrySize e ≤ 64 → Said i
   unfolding codeOf

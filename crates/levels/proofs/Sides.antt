@@ -147,10 +147,10 @@ module _ (pattern : ℕ) where
       let d : 4 * q / 4 ≡ q = omega arith in
       is-luma (4 * q) (omega arith) .coded pattern ∙ ap (quadrantCoded pattern) d
 
-  pub dc-coded : itemCoded pattern 16 ≡ ltb 0 (classOf pattern)
+  dc-coded : itemCoded pattern 16 ≡ ltb 0 (classOf pattern)
   dc-coded = is-dc 16 (omega arith) (omega arith) .coded pattern
 
-  pub ac-coded : itemCoded pattern 18 ≡ eqb (classOf pattern) 2
+  ac-coded : itemCoded pattern 18 ≡ eqb (classOf pattern) 2
   ac-coded = is-ac 18 (omega arith) .coded pattern
 
 pub luma-place : (q : ℕ) → q < 4 → 64 * q ≡ itemPlace (4 * q)

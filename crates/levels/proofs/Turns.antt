@@ -57,7 +57,7 @@ module _ {E X : Type 0} (t : Bool) {f g : List E → Got X} {wf wg : X → List 
           (λ s. when-false t (f s) (g s) e) (λ x h. when-false t (wf x) (wg x) e) (λ x h. ((λ n. not-both n e), (λ _. h))) (λ x h. h .1 e)
 
 -- nothing is read where the test fails
-pub refuses : {E X : Type 0} (r : Refusal) (w : X → List E) → Format {E = E} {X = X} (λ s. refused r) w (λ x. ⊥)
+refuses : {E X : Type 0} (r : Refusal) (w : X → List E) → Format {E = E} {X = X} (λ s. refused r) w (λ x. ⊥)
 refuses r w = record { reads = λ x rest e. absurd e; came = λ s x n e. never e }
 
 pub tested : {E X : Type 0} (t : Bool) (r : Refusal) {f : List E → Got X} {wf : X → List E} {okf : X → Type 0} → (t ≡ true → Format f wf okf)

@@ -29,7 +29,7 @@ stored at room (refused r) out place answer left d = record { answers = d .answe
 
 -- A GROUP THAT IS NOT CODED CHANGES NOTHING, whatever f says of the n lists from i on, as long as a list that is not coded changes nothing
 module _ {A : Type 0} (pattern : ℕ) (f : ℕ → ℕ → A) (passed : (n i : ℕ) → itemCoded pattern i ≡ false → f (suc n) i ≡ f n (suc i)) where
-  pub group-passed : {i e : ℕ} → Group i e → itemCoded pattern i ≡ false → f (26 - i) i ≡ f (26 - e) e
+  group-passed : {i e : ℕ} → Group i e → itemCoded pattern i ≡ false → f (26 - i) i ≡ f (26 - e) e
   group-passed {i} {e} g t = go (e - i) i (omega (arith, g .on)) (λ j a b. g .same pattern j a b ∙ t)
     where
       go : (k i : ℕ) → i + k ≡ e → ((j : ℕ) → i ≤ j → j < e → itemCoded pattern j ≡ false) → f (26 - i) i ≡ f (26 - e) e
@@ -75,7 +75,7 @@ rest-answer whole at p (got ls n) g =
     ap End far ∙ ap (listAnswer at) (sym (g .is))
 rest-answer whole at p (refused r) g = ap (listAnswer at) (sym (g .is))
 
-pub rest-last : {whole : Got (List ℤ)} {at p : ℕ} (part : Got (List ℤ)) (answer : ListAnswer) (left : List ℤ) → Rest whole at p part → Left p part answer left → Left at whole answer left
+rest-last : {whole : Got (List ℤ)} {at p : ℕ} (part : Got (List ℤ)) (answer : ListAnswer) (left : List ℤ) → Rest whole at p part → Left p part answer left → Left at whole answer left
 rest-last {whole} {at} {p} (got ls n) answer left g l =
     record { answers = l .answers ∙ rest-answer whole at p (got ls n) g; leaves = λ xs k e. l .leaves ls n refl ∙ got-value (sym (g .is) ∙ e) }
 rest-last {whole} {at} {p} (refused r) answer left g l =

@@ -20,11 +20,11 @@ use Rattle.macroblock.specs.declared.MbReport.{MbReport}
 use Rattle.macroblock.specs.declared.MbAnswer.{MbAnswer}
 use Rattle.macroblock.specs.declared.MbAnswer.the-variants.{Accepted, Refused}
 
-pub data Answered (s : State) (call : Call) (bits : List ℕ) (place : ℕ) (t : List ℕ) (fill : ℕ) : Type 0 where
+data Answered (s : State) (call : Call) (bits : List ℕ) (place : ℕ) (t : List ℕ) (fill : ℕ) : Type 0 where
   no : (why : Refusal) → decoded s call bits place t fill ≡ kept s t (Refused why) → Answered s call bits place t fill
   yes : (r : Record) (n : ℕ) → decoded s call bits place t fill ≡ outcomeOf s place t fill (got r n) → Answered s call bits place t fill
 
-pub answered : (s : State) (call : Call) (bits : List ℕ) (place : ℕ) (t : List ℕ) (fill : ℕ) → Answered s call bits place t fill
+answered : (s : State) (call : Call) (bits : List ℕ) (place : ℕ) (t : List ℕ) (fill : ℕ) → Answered s call bits place t fill
 unfolding decoded outcomeOf
 answered s call bits place t fill =
     go (asked s call bits place t fill) refl

@@ -69,7 +69,7 @@ coded-quantiser s r h = if-no _ _ _ (ne-eqb (r .head .mode) 0 (omega arith))
 
 module _ (s : State) (call : Call) (bits : List ℕ) (place : ℕ) (transcript : List ℕ) (fill : ℕ) where
   -- what is read, and what is read of a macroblock that is no skip
-  abbrev pub found : Got Record
+  abbrev found : Got Record
   found = readMacroblock (contextOf s) call (drop place (bitList bits))
 
   abbrev pub foundCoded : Got Record

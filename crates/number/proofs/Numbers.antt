@@ -9,7 +9,7 @@ use native.Mathlib.Nat.{pow-succ'}
 use native.Mathlib.Omega.{arith}
 use borrow.Author.Tests.{lt-ltb, le-ltb, ltb-true, ltb-false}
 use lib.Dec.{ltb, lit<}
-use lib.ListN.{length, getD}
+use lib.ListN.{length}
 use Rattle.refusal.specs.Got.{Got, got, refused}
 use Rattle.refusal.specs.Format.{Came, Format}
 use Rattle.refusal.specs.declared.Refusal.{Refusal}
@@ -179,7 +179,7 @@ refused-form (b ∷ t) r e =
         let g : lowThen (b - 128) (refused q) ≡ refused r = ap (lowThen (b - 128)) (sym h) ∙ e in
         cc (low-refused (b - 128) q)
 
--- ---- how long a number is, and that it is bytes
+-- ---- how long a number is
 pub some-bytes : (room v : ℕ) → (1 ≤ length (groups room v)) × (length (groups room v) ≤ suc room)
 unfolding groups
 some-bytes zero v = (lit< tt, lit< tt)
@@ -197,25 +197,3 @@ number-length v = some-bytes 4 v
 pub one-byte : (v : ℕ) → v < 128 → length (number v) ≡ 1
 unfolding number
 one-byte v h = ap length (one-group 4 v h)
-
-alone : (b i : ℕ) → b < 256 → getD (b ∷ []) i 0 < 256
-alone b zero h = h
-alone b (suc i) h = lit< tt
-
-bytes-of : (room v : ℕ) → v < 256 * 128 ^ room → (i : ℕ) → getD (groups room v) i 0 < 256
-unfolding groups
-bytes-of zero v h i = alone v i (omega arith)
-bytes-of (suc room) v h i = ⊎-elim
-    (λ (l : v < 128). rw (lt-ltb v 128 l) (alone v i (omega arith)))
-    (λ (l : 128 ≤ v).
-    let k = rw (pow-succ' 128 room) at h in
-    rw (le-ltb v 128 l) (next i (bytes-of room (v / 128) (omega arith))))
-    (lt-or-le v 128)
-  where
-    next : (i : ℕ) → ((j : ℕ) → getD (groups room (v / 128)) j 0 < 256) → getD ((v % 128 + 128) ∷ groups room (v / 128)) i 0 < 256
-    next zero t = omega arith
-    next (suc i) t = t i
-
-pub number-bytes : (v : ℕ) → NumberRange v → (i : ℕ) → getD (number v) i 0 < 256
-unfolding number
-number-bytes v h i = bytes-of 4 v (omega arith) i

@@ -6,14 +6,14 @@ use Prim.Native.Nat.{ℕ, _+_, _*_, _/_, _%_, _≤_, _<_}
 use native.Mathlib.Omega.{arith}
 use borrow.Author.Tests.{eq-eqb, ne-eqb}
 use lib.IntN.{ℤ, pos, negsuc}
-use lib.ListN.{length, getD}
+use lib.ListN.{length}
 use Rattle.refusal.specs.Format.{Format}
 use Rattle.refusal.proofs.Formats.{renamed}
 use Rattle.number.specs.Number.{NumberRange}
 use Rattle.number.specs.SignedNumber.{sent, received, SignedNumberRange, signedNumber, readSigned}
-use Rattle.number.proofs.Numbers.{number-format, number-length, number-bytes, zero-or-more}
+use Rattle.number.proofs.Numbers.{number-format, number-length, zero-or-more}
 
-pub received-sent : (z : ℤ) → received (sent z) ≡ z
+received-sent : (z : ℤ) → received (sent z) ≡ z
 unfolding sent received
 received-sent (pos n) =
     let h : 2 * n / 2 ≡ n = omega arith in
@@ -22,7 +22,7 @@ received-sent (negsuc n) =
     let h : (2 * n + 1) / 2 ≡ n = omega arith in
     rw (eq-eqb ((2 * n + 1) % 2) 1 (omega arith), h)
 
-pub sent-received : (n : ℕ) → sent (received n) ≡ n
+sent-received : (n : ℕ) → sent (received n) ≡ n
 unfolding sent received
 sent-received n = ⊎-elim
     (λ (e : n % 2 ≡ 0). rw (ne-eqb (n % 2) 1 (λ f. omega arith)) (omega arith))
@@ -30,7 +30,7 @@ sent-received n = ⊎-elim
     (zero-or-more (n % 2))
 
 -- an i32 is sent as 32 bits
-pub sent-range : (z : ℤ) → SignedNumberRange z → NumberRange (sent z)
+sent-range : (z : ℤ) → SignedNumberRange z → NumberRange (sent z)
 unfolding sent
 sent-range (pos n) h = omega arith
 sent-range (negsuc n) h = omega arith
@@ -50,7 +50,3 @@ signed-format = renamed number-format received sent SignedNumberRange received-r
 pub signed-length : (z : ℤ) → (1 ≤ length (signedNumber z)) × (length (signedNumber z) ≤ 5)
 unfolding signedNumber
 signed-length z = number-length (sent z)
-
-pub signed-bytes : (z : ℤ) → SignedNumberRange z → (i : ℕ) → getD (signedNumber z) i 0 < 256
-unfolding signedNumber
-signed-bytes z h i = number-bytes (sent z) (sent-range z h) i

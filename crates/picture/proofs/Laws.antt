@@ -39,7 +39,7 @@ module _ {A : Type 0} where
   row-length l at v zero = refl
   row-length l at v (suc n) = length-set (row l at v n) (at + n) (v n) ∙ row-length l at v n
 
-  pub rows-length : (l : List A) (s x y : ℕ) (v : ℕ → ℕ → A) (w h : ℕ) → length (rows l s x y v w h) ≡ length l
+  rows-length : (l : List A) (s x y : ℕ) (v : ℕ → ℕ → A) (w h : ℕ) → length (rows l s x y v w h) ≡ length l
   unfolding rows
   rows-length l s x y v w zero = refl
   rows-length l s x y v w (suc h) = row-length (rows l s x y v w h) ((y + h) * s + x) (v h) w ∙ rows-length l s x y v w h
@@ -82,7 +82,7 @@ module _ {A : Type 0} where
       row-other (rows l s x y v w h) ((y + h) * s + x) (v h) w i d (λ c. o h c (omega arith))
       ∙ rows-other l s x y v w h i d (λ r c lt. o r c (omega arith))
 
-  pub rows-same : (l : List A) (s x y : ℕ) (v : ℕ → ℕ → A) (w h r c : ℕ) (d : A) → x + w ≤ s → (y + h) * s ≤ length l → r < h → c < w → getD (rows l s x y v w h) ((y + r) * s + x + c) d ≡ v r c
+  rows-same : (l : List A) (s x y : ℕ) (v : ℕ → ℕ → A) (w h r c : ℕ) (d : A) → x + w ≤ s → (y + h) * s ≤ length l → r < h → c < w → getD (rows l s x y v w h) ((y + r) * s + x + c) d ≡ v r c
   unfolding rows
   rows-same l s x y v w zero r c d a f lr lc = absurd (not-suc-le-zero lr)
   rows-same l s x y v w (suc h) r c d a f lr lc =
@@ -97,7 +97,7 @@ module _ {A : Type 0} where
 
 -- ---- eachAt
 module _ {A : Type 0} where
-  pub each-length : (f : ℕ → A → A) (l : List A) → length (eachAt f l) ≡ length l
+  each-length : (f : ℕ → A → A) (l : List A) → length (eachAt f l) ≡ length l
   unfolding eachAt
   each-length f [] = refl
   each-length f (v ∷ l) = ap suc (each-length (λ i. f (suc i)) l)
@@ -127,7 +127,7 @@ unfolding within
 within-in a n i p q = simp (le-leb a i p, lt-ltb i (a + n) q)
 
 -- column x + c of row y + r lies inside
-pub inside-in : (s x y w h r c : ℕ) → x + w ≤ s → r < h → c < w → inside s x y w h ((y + r) * s + x + c) ≡ true
+inside-in : (s x y w h r c : ℕ) → x + w ≤ s → r < h → c < w → inside s x y w h ((y + r) * s + x + c) ≡ true
 unfolding inside
 inside-in s x y w h r c a lr lc =
     simp (
@@ -139,7 +139,7 @@ inside-in s x y w h r c a lr lc =
     )
 
 -- a place inside, by its column and row
-pub place : (s x y w h i : ℕ) → inside s x y w h i ≡ true → (i / s - y < h) × (i % s - x < w) × ((y + (i / s - y)) * s + x + (i % s - x) ≡ i)
+place : (s x y w h i : ℕ) → inside s x y w h i ≡ true → (i / s - y < h) × (i % s - x < w) × ((y + (i / s - y)) * s + x + (i % s - x) ≡ i)
 unfolding inside
 place s x y w h i e =
     let b = both-true (within x w (i % s)) (within y h (i / s)) e in

@@ -101,7 +101,7 @@ module _ (cols rows : ℕ) (wide : cols ≤ 4096) (high : rows ≤ 4096) where
       let k′ : f .k ≡ length (recordBytes r) = k ∙ ap (λ (y : Record). length (recordBytes y)) (sym x) in
       omega (arith, f .there, f .some, length-append (line (hexBytes (recordBytes r))) (recordLines rs), line-length (hexBytes (recordBytes r)), hex-length (recordBytes r), length-drop (f .k) (b ∷ s))
 
-  pub lines-length : {s : List ℕ} (r : Recorded cols rows s) → length (linesOf (records cols rows s)) ≤ 3 * length s
+  lines-length : {s : List ℕ} (r : Recorded cols rows s) → length (linesOf (records cols rows s)) ≤ 3 * length s
   lines-length {s} r = rw (r .is) (lines-most (r .rs) s (r .taken) (r .is))
 
   stop-length : (stop : Stop) → length (stopLines stop) ≤ 11

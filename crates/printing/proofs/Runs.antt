@@ -32,15 +32,15 @@ use Rattle.theorems.proofs.ReplayOfRun.{records-of}
 
 module _ (s : State) (list bits : List ℕ) (place : ℕ) (t : List ℕ) where
   -- the transcript of a run is one
-  pub recorded : Recorded (s .cols) (s .rows) (transcriptOf (ranList s list bits place t))
+  recorded : Recorded (s .cols) (s .rows) (transcriptOf (ranList s list bits place t))
   recorded =
       let x = list-trace s list bits place t in
       record { rs = x .rs; taken = length (bytesOf (x .rs)); is = rw (transcript-is x) (records-of (path-ranged (x .path))) }
 
 -- it lies within its room
-pub record Fits (n : ℕ) (r : Ran) : Type 0 where
-  pub fill : r .fill ≤ n
-  pub same : length (r .transcript) ≡ n
+record Fits (n : ℕ) (r : Ran) : Type 0 where
+  fill : r .fill ≤ n
+  same : length (r .transcript) ≡ n
 
 fits-from : (s : State) (calls : List Call) (bits : List ℕ) (place : ℕ) (t : List ℕ) (fill : ℕ) → fill ≤ length t → Fits (length t) (ranFrom s calls bits place t fill)
 unfolding ranFrom ended withCall outcomeOf
@@ -61,7 +61,7 @@ fits-from s (call ∷ calls) bits place t fill h =
         let f = more r n (omega (arith, a .free-bytes)) in
         subst (λ (o : Outcome). Fits (length t) (rest o)) (sym e) (record { fill = omega (arith, f .fill); same = f .same ∙ l })
 
-pub fits : (s : State) (list bits : List ℕ) (place : ℕ) (t : List ℕ) → Fits (length t) (ranList s list bits place t)
+fits : (s : State) (list bits : List ℕ) (place : ℕ) (t : List ℕ) → Fits (length t) (ranList s list bits place t)
 unfolding ranList ran ended
 fits s list bits place t = go (calls list)
   where

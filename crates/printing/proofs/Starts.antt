@@ -35,7 +35,7 @@ module _ (h : Header) where
       stateOf f (h .quantiser) (take (256 * macroblocks) (replicate 4096 128)) (take (64 * macroblocks) (replicate 1024 128)) (take (64 * macroblocks) (replicate 1024 128))
       (take (256 * macroblocks) (replicate 4096 0)) (take (64 * macroblocks) (replicate 1024 0)) (take (64 * macroblocks) (replicate 1024 0)) (take (32 * macroblocks) (replicate 512 (pos 0))) (take (16 * macroblocks) (replicate 256 0))
 
-  pub same-start : HeaderRange h → {f : Frame} → f ≡ frameOf h → buffers f ≡ start h
+  same-start : HeaderRange h → {f : Frame} → f ≡ frameOf h → buffers f ≡ start h
   unfolding start
   same-start r e =
       let g = grid-most h r in

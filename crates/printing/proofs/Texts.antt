@@ -36,7 +36,7 @@ module _ (bytes : List ℕ) (i : ℕ) (h : i < length bytes) {out₀ : List ℕ}
   byte-more = still-more s {a = getD bytes i 0 ∷ []} first-byte (written-one out p (getD bytes i 0))
 
 -- ---- two digits a byte
-abbrev pub hexOf : ℕ → List ℕ
+abbrev hexOf : ℕ → List ℕ
 hexOf b = hexDigit (b / 16) ∷ hexDigit (b % 16) ∷ []
 
 abbrev pub hex-from : List ℕ → ℕ → List ℕ
@@ -89,11 +89,11 @@ digits-same zero turns′ n h k = let z : n ≡ 0 = omega arith in rw z (digits-
 digits-same (suc turns) zero n h k = let z : n ≡ 0 = omega arith in rw z (digits-zero (suc turns) ∙ sym (digits-zero zero))
 digits-same (suc turns) (suc turns′) n h k = digits-turn turns turns′ n h k (λ i j. digits-same turns turns′ (n / 10) i j) (ltb n 10) refl
 
-pub decimal-few : (n : ℕ) → n < 10 → decimal n ≡ (48 + n) ∷ []
+decimal-few : (n : ℕ) → n < 10 → decimal n ≡ (48 + n) ∷ []
 unfolding decimal
 decimal-few n h = digits-same n (suc n) n (omega arith) (omega arith) ∙ digits-few n n h
 
-pub decimal-many : (n : ℕ) → 10 ≤ n → decimal n ≡ decimal (n / 10) ++ (48 + n % 10) ∷ []
+decimal-many : (n : ℕ) → 10 ≤ n → decimal n ≡ decimal (n / 10) ++ (48 + n % 10) ∷ []
 unfolding decimal
 decimal-many n h =
     digits-same n (suc n) n (omega arith) (omega arith) ∙ digits-many n n h
@@ -147,7 +147,7 @@ unfolding digits
 digits-length zero n k h = omega arith
 digits-length (suc turns) n k h = length-turn turns n k h (λ j i. digits-length turns (n / 10) j i) (ltb n 10) refl
 
-pub decimal-length : (n k : ℕ) → n < 10 ^ (k + 1) → length (decimal n) ≤ k + 1
+decimal-length : (n k : ℕ) → n < 10 ^ (k + 1) → length (decimal n) ≤ k + 1
 unfolding decimal
 decimal-length n k h = digits-length n n k h
 

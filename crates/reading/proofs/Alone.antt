@@ -18,7 +18,7 @@ use Rattle.levels.proofs.ItemFormats.{items-format}
 use Rattle.state.specs.State.{Context}
 use Rattle.reading.specs.Read.{Moving, moved, readVectors, quantiserIn, readQuantiser, recordOf, atFirst, readResidual, readCoded, readMacroblock}
 
-pub if-local : {E X : Type 0} {f g : List E → Got X} (t : Bool) → Local f → Local g → Local (λ s. if t then f s else g s)
+if-local : {E X : Type 0} {f g : List E → Got X} (t : Bool) → Local f → Local g → Local (λ s. if t then f s else g s)
 unfolding if_then_else_
 if-local true F G = F
 if-local false F G = G
@@ -26,13 +26,13 @@ if-local false F G = G
 signed-local : Local signedCode
 signed-local = of-format signed-format
 
-pub vectors-local : (call : Call) (p : Svq3MvPrecision) (n i : ℕ) (m : Moving) → Local (readVectors call p n i m)
+vectors-local : (call : Call) (p : Svq3MvPrecision) (n i : ℕ) (m : Moving) → Local (readVectors call p n i m)
 unfolding readVectors
 vectors-local call p zero i m = of-got m
 vectors-local call p (suc n) i m =
     then-local signed-local (λ dy. then-local signed-local (λ dx. vectors-local call p n (suc i) (moved call p i m dy dx)))
 
-pub quantiser-local : (delta : Bool) (q pattern : ℕ) → Local (readQuantiser delta q pattern)
+quantiser-local : (delta : Bool) (q pattern : ℕ) → Local (readQuantiser delta q pattern)
 unfolding readQuantiser quantiserIn
 quantiser-local delta q pattern =
     if-local (not (eqb pattern 0) && delta)

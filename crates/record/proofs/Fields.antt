@@ -91,7 +91,7 @@ module _ (i : ℕ) where
   back : (xs : List ℤ) → ItemRange i xs → Signeds (itemCount i - itemStart i) (drop (itemStart i) xs)
   back xs r = (length-drop (itemStart i) xs ∙ ap (λ (n : ℕ). n - itemStart i) (r .count), (λ j. rw (getD-drop (itemStart i) xs j (pos 0)) (r .fits (itemStart i + j))))
 
-  pub item-format : Format (parseItem i) (itemBytes i) (ItemRange i)
+  item-format : Format (parseItem i) (itemBytes i) (ItemRange i)
   unfolding parseItem itemBytes
   item-format = renamed (signeds-format (itemCount i - itemStart i)) (λ zs. zeros (itemStart i) ++ zs) (drop (itemStart i)) (ItemRange i) there back
       (λ xs r. ap (λ (l : List ℤ). l ++ drop (itemStart i) xs) (sym (r .before)) ∙ take-append-drop (itemStart i) xs)

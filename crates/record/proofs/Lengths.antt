@@ -1,29 +1,26 @@
--- How long a record is, at most 2,089 bytes and never none; and that its bytes are bytes.
+-- How long a record is: at most 2,089 bytes, and never none.
 -- Assumes nothing.
-use mathlib.Core.Path.{_≡_, refl, ap}
+use mathlib.Core.Path.{_≡_, ap}
 use mathlib.Core.Bool.{Bool, true, false}
-use mathlib.Core.List.{List, [], _∷_, _++_, append-assoc}
+use mathlib.Core.List.{List, [], _∷_, append-assoc}
 use mathlib.Core.Logic.{⊎-elim}
-use Prim.Native.Nat.{ℕ, zero, suc, _+_, _-_, _*_, _/_, _≤_, _<_, _^_}
+use Prim.Native.Nat.{ℕ, zero, suc, _+_, _-_, _*_, _/_, _≤_, _<_}
 use native.Mathlib.Omega.{arith}
-use borrow.Author.Tests.{eqb-false}
 use lib.Dec.{eqb, lit<}
-use lib.IntN.{ℤ, pos}
-use lib.ListN.{length, getD, take, drop, length-append, length-take, length-drop, List·getD-append}
-use lib.Seq.{getD-append-add, getD-drop}
+use lib.IntN.{ℤ}
+use lib.ListN.{length, take, drop, length-append, length-take, length-drop}
 use Rattle.ints.specs.Z.{if_then_else_}
 use Rattle.number.specs.Number.{number}
 use Rattle.number.specs.SignedNumber.{signedNumber}
-use Rattle.number.proofs.Numbers.{lt-or-le, zero-or-more, one-group, more-groups, one-byte, number-length, number-bytes}
-use Rattle.number.proofs.SignedNumbers.{signed-length, signed-bytes}
+use Rattle.number.proofs.Numbers.{lt-or-le, zero-or-more, one-group, more-groups, one-byte, number-length}
+use Rattle.number.proofs.SignedNumbers.{signed-length}
 use Rattle.vectors.specs.Modes.{numMotionVectors}
 use Rattle.record.specs.Record.{Record, skipRecord}
-use Rattle.levels.specs.Items.{itemCoded, itemBook, itemStart, itemCount, itemPlace, itemLevels, writeLists, ListsRange}
+use Rattle.levels.specs.Items.{itemCoded, itemBook, itemStart, itemCount, itemPlace, itemLevels, writeLists}
 use Rattle.record.specs.Write.{signedNumbers, itemBytes, itemsBytes, restBytes, recordBytes}
-use Rattle.record.specs.Range.{I32s, ItemRange, CodedRange, RecordRange, HeadRange}
-use Rattle.record.proofs.Padded.{used-most, to-numbers}
+use Rattle.record.specs.Range.{RecordRange, HeadRange}
+use Rattle.record.proofs.Padded.{used-most}
 
--- ---- lengths
 two-bytes : (v : ℕ) → v < 4096 → length (number v) ≤ 2
 unfolding number
 two-bytes v h = ⊎-elim
@@ -31,7 +28,7 @@ two-bytes v h = ⊎-elim
     (λ (l : 128 ≤ v). rw (more-groups 3 v l, one-group 3 (v / 128) (omega arith)) (lit< tt))
     (lt-or-le v 128)
 
-pub signeds-length : (zs : List ℤ) → length (signedNumbers zs) ≤ 5 * length zs
+signeds-length : (zs : List ℤ) → length (signedNumbers zs) ≤ 5 * length zs
 unfolding signedNumbers
 signeds-length [] = omega arith
 signeds-length (z ∷ zs) = omega (arith, length-append (signedNumber z) (signedNumbers zs), signed-length z, signeds-length zs)
@@ -74,7 +71,7 @@ used-length r h =
     omega (arith, signeds-length (take n (r .vectors)), length-take n (r .vectors), used-most (r .head .mode) h)
 
 -- the lengths of the parts, one after another
-pub rest-parts : (r : Record) → length (restBytes r) ≡ length (number (r .head .precision)) + (length (number (r .head .clipped))
+rest-parts : (r : Record) → length (restBytes r) ≡ length (number (r .head .precision)) + (length (number (r .head .clipped))
     + (length (signedNumbers (take (2 * numMotionVectors (r .head .mode)) (r .vectors))) + (length (number (r .head .pattern)) + (length (number (r .head .quantiser)) + length (itemsBytes 26 0 (r .head .pattern) (r .levels))))))
 unfolding restBytes
 rest-parts r = simp (append-assoc, length-append)
@@ -93,7 +90,7 @@ rest-length r h =
       items-length (r .head .pattern) (r .levels),
     )
 
-pub record-parts : (r : Record) → length (recordBytes r) ≡ length (number (r .head .column)) + (length (number (r .head .row)) + (length (number (r .head .mode)) + length (if eqb (r .head .mode) 0 then [] else restBytes r)))
+record-parts : (r : Record) → length (recordBytes r) ≡ length (number (r .head .column)) + (length (number (r .head .row)) + (length (number (r .head .mode)) + length (if eqb (r .head .mode) 0 then [] else restBytes r)))
 unfolding recordBytes
 record-parts r = simp (append-assoc, length-append)
 
@@ -141,53 +138,3 @@ head-range cols rows r h k g = ⊎-elim skip coded (zero-or-more (r .head .mode)
           pattern = c .pattern;
           quantiser = c .quantiser;
         }
-
--- ---- bytes
-record Bytes (s : List ℕ) : Type 0 where
-  each : (i : ℕ) → getD s i 0 < 256
-
-both : {s t : List ℕ} → Bytes s → Bytes t → Bytes (s ++ t)
-both {s} {t} h k = record {
-  each = λ i. ⊎-elim
-      (λ (l : i < length s). rw (List·getD-append s t 0 i l) (h .each i))
-      (λ (l : length s ≤ i). let e : i ≡ length s + (i - length s) = omega arith in rw e (rw (getD-append-add s t (i - length s) 0) (k .each (i - length s))))
-      (lt-or-le i (length s));
-}
-
-none : Bytes []
-none = record { each = λ i. lit< tt }
-
-small : (v m : ℕ) → v ≤ m → m < 2 ^ 32 → Bytes (number v)
-small v m h k = record { each = number-bytes v (omega arith) }
-
-signeds-bytes : (zs : List ℤ) → I32s zs → Bytes (signedNumbers zs)
-unfolding signedNumbers
-signeds-bytes [] h = none
-signeds-bytes (z ∷ zs) h = both {s = signedNumber z} (record { each = signed-bytes z (h 0) }) (signeds-bytes zs (λ i. h (suc i)))
-
-lists-bytes : (n i pattern : ℕ) (levels : List ℤ) → i + n ≡ 26 → ListsRange ItemRange pattern levels → Bytes (writeLists itemBytes n i pattern levels)
-unfolding writeLists itemBytes if_then_else_
-lists-bytes zero i pattern levels e r = none
-lists-bytes (suc n) i pattern levels e r = both (go (itemCoded pattern i) refl) (lists-bytes n (suc i) pattern levels (omega arith) r)
-  where
-    go : (t : Bool) → itemCoded pattern i ≡ t → Bytes (if t then itemBytes i (itemLevels levels i) else [])
-    go true c = signeds-bytes (drop (itemStart i) (itemLevels levels i)) (λ j. rw (getD-drop (itemStart i) (itemLevels levels i) j (pos 0)) (r .coded i (omega arith) c .fits (itemStart i + j)))
-    go false c = none
-
-rest-bytes : (r : Record) → r .head .mode ≤ 7 → CodedRange r → Bytes (restBytes r)
-unfolding restBytes itemsBytes
-rest-bytes r h c =
-    let n = 2 * numMotionVectors (r .head .mode) in
-    let few = used-most (r .head .mode) h in
-    let motion = both (both (small (r .head .precision) 2 (c .precision) (lit< tt)) (small (r .head .clipped) 32 (omega (arith, c .clipped)) (lit< tt)))
-    (signeds-bytes (take n (r .vectors)) (to-numbers n few (r .vectors) (c .vectors) .0 .1)) in
-    both (both (both motion (small (r .head .pattern) 47 (c .pattern) (lit< tt))) (small (r .head .quantiser) 31 (c .quantiser) (lit< tt)))
-    (lists-bytes 26 0 (r .head .pattern) (r .levels) refl (c .levels))
-
-pub record-bytes : (cols rows : ℕ) (r : Record) → cols ≤ 4096 → rows ≤ 4096 → RecordRange cols rows r → (i : ℕ) → getD (recordBytes r) i 0 < 256
-unfolding recordBytes if_then_else_
-record-bytes cols rows r h k g = both (both (both (small (r .head .column) 4096 (omega (arith, g .column)) (lit< tt)) (small (r .head .row) 4096 (omega (arith, g .row)) (lit< tt))) (small (r .head .mode) 7 (g .mode) (lit< tt))) (go (eqb (r .head .mode) 0) refl) .each
-  where
-    go : (t : Bool) → eqb (r .head .mode) 0 ≡ t → Bytes (if t then [] else restBytes r)
-    go true z = none
-    go false z = let n : r .head .mode ≡ 0 → ⊥ = eqb-false (r .head .mode) 0 z in rest-bytes r (g .mode) (g .coded (omega arith))

@@ -14,7 +14,7 @@ use Rattle.ints.specs.Z.{if_then_else_}
 use Rattle.refusal.specs.Got.{got, refused, mapGot}
 use Rattle.refusal.specs.Format.{Format}
 use Rattle.refusal.specs.declared.Refusal.the-variants.{FieldRange}
-use Rattle.refusal.proofs.Formats.{injective, renamed}
+use Rattle.refusal.proofs.Formats.{renamed}
 use Rattle.number.specs.Number.{number, NumberRange}
 use Rattle.number.proofs.Numbers.{number-format}
 use Rattle.vectors.specs.Modes.{numMotionVectors}
@@ -52,7 +52,7 @@ module _ (h : Head) (vs : List ℤ) where
   with-levels p q = renamed (levels-format p) (λ levels. record { head = withResidual h p q; vectors = vs; levels = levels }) (λ r. r .levels) (LevelsOf p q)
       (λ levels k. record { head = refl; vectors = refl; levels = k }) (λ r k. k .levels) (rebuilt p q) (λ levels k. refl)
 
-  pub residual-format : Format (parseResidual h vs) residualBytes (ResidualOf h vs)
+  residual-format : Format (parseResidual h vs) residualBytes (ResidualOf h vs)
   unfolding parseResidual
   residual-format =
       restated
@@ -198,7 +198,3 @@ record-format cols rows h k =
     restated (three-first cols rows) (parseRecord cols rows) recordBytes (RecordRange cols rows) (λ s. refl) (λ r g. in-order cols rows r)
     (λ r g. to-range cols rows r (g .1 .1 .1))
     (λ r g. (omega (arith, g .column), (omega (arith, g .row), (omega (arith, g .mode), from-range cols rows r g))))
-
--- UNIQUE READING: two records with the same bytes, whatever follows each, are one, and the same follows
-pub record-unique : (cols rows : ℕ) → cols ≤ 4096 → rows ≤ 4096 → (q r : Record) (s t : List ℕ) → RecordRange cols rows q → RecordRange cols rows r → recordBytes q ++ s ≡ recordBytes r ++ t → (q ≡ r) × (s ≡ t)
-record-unique cols rows h k = injective (record-format cols rows h k)

@@ -20,7 +20,7 @@ abbrev pub onward : Asked → Asked → Asked
 onward Yes next = next
 onward (No why) next = No why
 
-pub start-onward : (cols rows : ℕ) (l : Lengths) (next : Asked) → askStart cols rows l next ≡ onward (askStart cols rows l Yes) next
+start-onward : (cols rows : ℕ) (l : Lengths) (next : Asked) → askStart cols rows l next ≡ onward (askStart cols rows l Yes) next
 unfolding askStart
 start-onward cols rows l next = go (gridRight cols rows) (stateRight cols rows l) (referenceThere l) (planesRight cols rows (l .ry) (l .rcb) (l .rcr)) GridSize StateLength MissingReference ReferenceLength
   where
@@ -55,7 +55,7 @@ grid cols rows e =
 pub grid-size : (cols rows : ℕ) → gridRight cols rows ≡ true → cols * rows ≤ 16777216
 grid-size cols rows e = let g = grid cols rows e in mul-le-mul (g .most-cols) (g .most-rows)
 
-pub place-onward : (size place : ℕ) (next : Asked) → askPlace size place next ≡ onward (askPlace size place Yes) next
+place-onward : (size place : ℕ) (next : Asked) → askPlace size place next ≡ onward (askPlace size place Yes) next
 unfolding askPlace
 place-onward size place next = go (placeIn size place)
   where

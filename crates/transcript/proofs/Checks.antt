@@ -1,4 +1,4 @@
--- Laws of the records of a transcript: a record takes a byte at least, enough turns give the same records, and the first record is in front of the records of the rest.
+-- Laws of the records of a transcript: a record takes a byte at least, and the first record is in front of the records of the rest.
 -- Assumes nothing.
 use mathlib.Core.Path.{_≡_, refl, sym, ap, _∙_}
 use mathlib.Core.Bool.{true}
@@ -10,7 +10,7 @@ use lib.ListN.{length, drop}
 use Rattle.refusal.specs.Got.{Got, got, refused, after}
 use Rattle.refusal.specs.declared.Refusal.{Refusal}
 use Rattle.refusal.proofs.Formats.{bounded}
-use Rattle.refusal.proofs.Lists.{Takes, First, Next, untilAll, until-more, until-got, until-next, until-none, tally}
+use Rattle.refusal.proofs.Lists.{Takes, First, Next, untilAll, until-got, until-next, until-none, tally}
 use Rattle.state.specs.Questions.{gridRight}
 use Rattle.state.proofs.Laws.{grid}
 use Rattle.record.specs.Record.{Record}
@@ -44,15 +44,10 @@ module _ (cols rows : ℕ) where
       go (refused r) = refl
 
   module _ (h : cols ≤ 4096) (k : rows ≤ 4096) where
-    pub record-takes : Takes (parseRecord cols rows)
+    record-takes : Takes (parseRecord cols rows)
     record-takes = record {
       takes = λ s r n e. (omega (arith, record-format cols rows h k .came s r n e .taken, record-some r), bounded (record-format cols rows h k) s r n e);
     }
-
-    -- enough turns give the same
-    pub recordsIn-more : (turns turns′ : ℕ) (s : List ℕ) → length s ≤ turns → length s ≤ turns′ → recordsIn cols rows turns s ≡ recordsIn cols rows turns′ s
-    unfolding recordsIn
-    recordsIn-more = until-more record-takes
 
     -- the first record: parseRecord cols rows s ≡ got x k, 1 ≤ k ≤ length s, rs ≡ x ∷ rest and records cols rows (drop k s) ≡ got rest m
     pub records-first : (s : List ℕ) (rs : List Record) (n : ℕ) → 0 < length s → records cols rows s ≡ got rs n → First (parseRecord cols rows) (records cols rows) s rs n

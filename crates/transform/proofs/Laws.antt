@@ -109,7 +109,7 @@ unfolding added raised
 added-values plane s x y f g e = painted-values s x y 4 4 _ _ plane (λ r c lr lc. ap (λ z. clip1Z (pos (seen plane s x y r c) +ℤ z)) (e r c lr lc))
 
 -- samples of 8 bits, to which held residuals are added: as if they were not held
-pub added-short : (plane : List ℕ) (s x y : ℕ) (f : ℕ → ℕ → ℤ) → ((n : ℕ) → getD plane n 0 < 256) → added plane s x y (shortened f) ≡ added plane s x y f
+added-short : (plane : List ℕ) (s x y : ℕ) (f : ℕ → ℕ → ℤ) → ((n : ℕ) → getD plane n 0 < 256) → added plane s x y (shortened f) ≡ added plane s x y f
 unfolding added raised shortened seen
 added-short plane s x y f h = painted-values s x y 4 4 _ _ plane (λ r c lr lc. clip-short _ (f r c) (h _))
 

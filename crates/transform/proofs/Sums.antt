@@ -38,10 +38,10 @@ module _ (a b c d : ℤ) where
   sum-z-3 = omega (arith, diff-z (pos 13 *ℤ a) (pos 17 *ℤ b), add-z (pos 13 *ℤ a -ℤ pos 17 *ℤ b) (pos 13 *ℤ c), diff-z (pos 13 *ℤ a -ℤ pos 17 *ℤ b +ℤ pos 13 *ℤ c) (pos 7 *ℤ d), times-z 13 a, times-z 17 b, times-z 13 c, times-z 7 d)
 
 -- ---- magnitudes
-pub abs-add : (x y : ℤ) → natAbs (x +ℤ y) ≤ natAbs x + natAbs y
+abs-add : (x y : ℤ) → natAbs (x +ℤ y) ≤ natAbs x + natAbs y
 abs-add x y = omega (arith, add-z x y, abs-z x, abs-z y, abs-z (x +ℤ y), mag-z (x +ℤ y))
 
-pub abs-diff : (x y : ℤ) → natAbs (x -ℤ y) ≤ natAbs x + natAbs y
+abs-diff : (x y : ℤ) → natAbs (x -ℤ y) ≤ natAbs x + natAbs y
 abs-diff x y = omega (arith, diff-z x y, abs-z x, abs-z y, abs-z (x -ℤ y), mag-z (x -ℤ y))
 
 pub abs-times : (k : ℕ) (x : ℤ) → natAbs (pos k *ℤ x) ≡ k * natAbs x
@@ -78,7 +78,7 @@ sum-abs (suc (suc zero)) m {a} {b} {c} {d} h = omega (arith, abs-diff (pos 13 *�
 sum-abs (suc (suc (suc k))) m {a} {b} {c} {d} h = omega (arith, abs-diff (pos 13 *ℤ a) (pos 17 *ℤ b), abs-add (pos 13 *ℤ a -ℤ pos 17 *ℤ b) (pos 13 *ℤ c), abs-diff (pos 13 *ℤ a -ℤ pos 17 *ℤ b +ℤ pos 13 *ℤ c) (pos 7 *ℤ d), abs-times 13 a, abs-times 17 b, abs-times 13 c, abs-times 7 d)
 
 -- where 50 times the largest fits, a sum fits, and nothing saturates
-pub sum-fits : (k m : ℕ) {a b c d : ℤ} → 50 * m ≤ 2147483647 → Small m a b c d → SFits w32 (sumOf k a b c d)
+sum-fits : (k m : ℕ) {a b c d : ℤ} → 50 * m ≤ 2147483647 → Small m a b c d → SFits w32 (sumOf k a b c d)
 sum-fits k m {a} {b} {c} {d} h p = record { sfits = omega (arith, sum-abs k m p, mag-z (sumOf k a b c d), abs-z (sumOf k a b c d)) }
 
 pub weighed-exact : (k m : ℕ) {a b c d : ℤ} → 50 * m ≤ 2147483647 → Small m a b c d → weighed k a b c d ≡ sumOf k a b c d

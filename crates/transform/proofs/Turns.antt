@@ -17,7 +17,7 @@ module _ (l : List ℤ) (p q r s : ℕ) (a b c d : ℤ) where
   abbrev pub four : List ℤ
   four = set (set (set (set l p a) q b) r c) s d
 
-  pub four-length : length four ≡ length l
+  four-length : length four ≡ length l
   four-length = simp length-set
 
   four-other : (n : ℕ) → n ≢ p → n ≢ q → n ≢ r → n ≢ s → getD four n (pos 0) ≡ getD l n (pos 0)
@@ -27,21 +27,21 @@ module _ (l : List ℤ) (p q r s : ℕ) (a b c d : ℤ) where
       ∙ getD-set-other l p n a (pos 0) e
 
   module _ (u : p < q) (v : q < r) (w : r < s) (z : s < length l) where
-    pub four-first : getD four p (pos 0) ≡ a
+    four-first : getD four p (pos 0) ≡ a
     four-first =
         getD-set-other (set (set (set l p a) q b) r c) s p d (pos 0) (omega arith) ∙ getD-set-other (set (set l p a) q b) r p c (pos 0) (omega arith)
         ∙ getD-set-other (set l p a) q p b (pos 0) (omega arith)
         ∙ getD-set-same l p a (pos 0) (omega arith)
 
-    pub four-second : getD four q (pos 0) ≡ b
+    four-second : getD four q (pos 0) ≡ b
     four-second =
         getD-set-other (set (set (set l p a) q b) r c) s q d (pos 0) (omega arith) ∙ getD-set-other (set (set l p a) q b) r q c (pos 0) (omega arith)
         ∙ getD-set-same (set l p a) q b (pos 0) (simp length-set (omega arith))
 
-    pub four-third : getD four r (pos 0) ≡ c
+    four-third : getD four r (pos 0) ≡ c
     four-third = getD-set-other (set (set (set l p a) q b) r c) s r d (pos 0) (omega arith) ∙ getD-set-same (set (set l p a) q b) r c (pos 0) (simp length-set (omega arith))
 
-    pub four-fourth : getD four s (pos 0) ≡ d
+    four-fourth : getD four s (pos 0) ≡ d
     four-fourth = getD-set-same (set (set (set l p a) q b) r c) s d (pos 0) (simp length-set (omega arith))
 
 -- what stands at a place, said of the same place

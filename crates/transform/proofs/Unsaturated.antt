@@ -97,7 +97,7 @@ module _ {scale : ℕ} {levels : List ℤ} {at : ℕ} (h : Exact scale levels at
       unfolding rowAt
       row-at m j n lm lj e = ap (λ k. getD y k (pos 0)) e ∙ r .done (4 * b + m) j (omega arith) lj
 
-      pub column-is : (dc : ℤ) (i j : ℕ) → i < 4 → j < 4 → getD (columnSums y (16 * b + j) dc) i (pos 0) ≡ residual scale dc (placed levels (at + 16 * b)) i j
+      column-is : (dc : ℤ) (i j : ℕ) → i < 4 → j < 4 → getD (columnSums y (16 * b + j) dc) i (pos 0) ≡ residual scale dc (placed levels (at + 16 * b)) i j
       unfolding columnSums residual block
       column-is dc i j li lj =
           let e0 = row-at 0 j (16 * b + j) (omega arith) lj (omega arith) in
@@ -107,7 +107,7 @@ module _ {scale : ℕ} {levels : List ℤ} {at : ℕ} (h : Exact scale levels at
           rounded-at dc _ _ _ _ i li ∙ ap (λ t. rounded t dc) ((λ k. sumOf i (e0 k) (e1 k) (e2 k) (e3 k)) ∙ sym (columns-is i j lj))
 
     -- it leaves room for a sample
-    pub residual-short : (dc : ℤ) (i j : ℕ) → j < 4 → natAbs dc ≤ 800000 → mag (residual scale dc (placed levels (at + 16 * b)) i j) < 4096
+    residual-short : (dc : ℤ) (i j : ℕ) → j < 4 → natAbs dc ≤ 800000 → mag (residual scale dc (placed levels (at + 16 * b)) i j) < 4096
     unfolding residual block
     residual-short dc i j lj k = rounded-within (columnsOf (rowsOf (scaled scale block)) i j) dc (omega (arith, ap natAbs (columns-is i j lj), sum-abs i 40000000 (rows-small j lj))) k .within
 

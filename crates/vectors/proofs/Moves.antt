@@ -113,12 +113,12 @@ unfolding storedPart
 stored-fits precision p d = sat-fits (scaled precision p d) .sfits
 
 -- ---- a multiple divided
-pub some-scale : (precision : Svq3MvPrecision) → 0 < storedScale precision
+some-scale : (precision : Svq3MvPrecision) → 0 < storedScale precision
 some-scale Fullpel = omega arith
 some-scale Halfpel = omega arith
 some-scale Thirdpel = omega arith
 
-pub multiple-back : (k : ℕ) (z : ℤ) → 0 < k → towardZero (z *ℤ pos k) k ≡ z
+multiple-back : (k : ℕ) (z : ℤ) → 0 < k → towardZero (z *ℤ pos k) k ≡ z
 multiple-back k z h =
     let u : up (towardZero (z *ℤ pos k) k) ≡ up z = quot-z k (z *ℤ pos k) .0 ∙ ap (λ n. n / k) (scaled-z k z .0) ∙ mul-div-right (up z) h in
     let v : down (towardZero (z *ℤ pos k) k) ≡ down z = quot-z k (z *ℤ pos k) .1 ∙ ap (λ n. n / k) (scaled-z k z .1) ∙ mul-div-right (down z) h in
@@ -127,7 +127,7 @@ multiple-back k z h =
 -- ---- where nothing was clipped
 module _ (precision : Svq3MvPrecision) (p d : ℤ) (e : clippedPart precision p d ≡ false) where
   -- the component is the exact product of the exact sum
-  pub stored-exact : storedPart precision p d ≡ (convertPredictor precision p +ℤ d) *ℤ pos (storedScale precision)
+  stored-exact : storedPart precision p d ≡ (convertPredictor precision p +ℤ d) *ℤ pos (storedScale precision)
   unfolding summed scaled storedPart clippedPart
   stored-exact =
       let n = neither (overZ (summed precision p d)) (overZ (scaled precision p d)) e in

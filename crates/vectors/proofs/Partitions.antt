@@ -19,10 +19,10 @@ span w j a z = (
 
 -- ---- blocks of w by h in rows of k: block i holds exactly the places whose quotients count to i
 module _ (k w h i a b : ℕ) (some : 0 < k) (wide : 0 < w) (high : 0 < h) where
-  pub block-of : (i % k * w ≤ a) × (a < i % k * w + w) → (i / k * h ≤ b) × (b < i / k * h + h) → i ≡ b / h * k + a / w
+  block-of : (i % k * w ≤ a) × (a < i % k * w + w) → (i / k * h ≤ b) × (b < i / k * h + h) → i ≡ b / h * k + a / w
   block-of x y = rw (span w (i % k) a wide .0 x, span h (i / k) b high .0 y) (sym (div-add-mod' i k))
 
-  pub of-block : a < k * w → i ≡ b / h * k + a / w → (i % k * w ≤ a) × (a < i % k * w + w) × (i / k * h ≤ b) × (b < i / k * h + h)
+  of-block : a < k * w → i ≡ b / h * k + a / w → (i % k * w ≤ a) × (a < i % k * w + w) × (i / k * h ≤ b) × (b < i / k * h + h)
   of-block fits e =
       let q : a / w < k = div-lt-iff-lt-mul wide .1 fits in
       let x : i % k ≡ a / w = rw (e, mul-add-mod-self-right (b / h) k (a / w)) (mod-eq-of-lt q) in
@@ -80,7 +80,7 @@ cut e mode h k = record {
 }
 
 -- the partitions of a mode that is no skip are all that fit
-pub num-is : (mode : ℕ) → 1 ≤ mode → mode ≤ 7 → numMotionVectors mode ≡ 16 / partitionWidth mode * (16 / partitionHeight mode)
+num-is : (mode : ℕ) → 1 ≤ mode → mode ≤ 7 → numMotionVectors mode ≡ 16 / partitionWidth mode * (16 / partitionHeight mode)
 unfolding partitionWidth partitionHeight numMotionVectors
 num-is zero h k = absurd (omega arith)
 num-is (suc m) h k = eqb→eq _ _ (all-at (λ m. eqb (numMotionVectors (suc m)) (16 / partitionWidth (suc m) * (16 / partitionHeight (suc m)))) 7 tt m (omega arith))

@@ -46,11 +46,11 @@ pub pairs-inside : {s x y w h n m : ℕ} → m ≡ 2 * n → Inside s x y w h n 
 pairs-inside {s} {x} {y} {w} {h} e i = record { some = omega arith; across = omega arith; down = omega arith }
 
 -- ---- lengths are kept
-pub vectors-length : (mv : List ℤ) (s x y w h : ℕ) (vx vy : ℤ) → length (storedVectors mv s x y w h vx vy) ≡ length mv
+vectors-length : (mv : List ℤ) (s x y w h : ℕ) (vx vy : ℤ) → length (storedVectors mv s x y w h vx vy) ≡ length mv
 unfolding storedVectors
 vectors-length mv s x y w h vx vy = painted-length (2 * s) (2 * x) y (2 * w) h (pairOf vx vy) mv
 
-pub marks-length : (marks : List ℕ) (s x y w h : ℕ) → length (storedMarks marks s x y w h) ≡ length marks
+marks-length : (marks : List ℕ) (s x y w h : ℕ) → length (storedMarks marks s x y w h) ≡ length marks
 unfolding storedMarks filled
 marks-length marks s x y w h = painted-length s x y w h (always 1) marks
 
@@ -125,7 +125,7 @@ module _ (s x y w h r c : ℕ) (lc : c < s) where
       go false m a b = refl
 
 -- ---- a field whose lists have the lengths of its grid
-pub cell-place : (cols rows x y : ℕ) → x < 4 * cols → y < 4 * rows → y * (4 * cols) + x < cellCount cols rows
+cell-place : (cols rows x y : ℕ) → x < 4 * cols → y < 4 * rows → y * (4 * cols) + x < cellCount cols rows
 cell-place cols rows x y lx ly = omega (arith, more (4 * cols) ly)
 
 -- a partition that lies in the grid was stored
