@@ -1,13 +1,15 @@
 // A record applied to the planes, the vectors and the marks.
 ghost use mathlib.Core.Path.{_≡_};
-ghost use Prim.Native.Nat.{_*_, _<_, _≤_};
+ghost use mathlib.Core.Bool.{true, false};
+ghost use Prim.Native.Nat.{_<_, _≤_};
 ghost use lib.ListN.{length};
-ghost use Rattle.picture.specs.Picture.{lumaLength, chromaLength, cellCount};
-ghost use Rattle.picture.specs.InnerPicture.{Sized, Within};
+ghost use Rattle.picture.specs.InnerPicture.{Within};
 ghost use Rattle.picture.specs.InnerField.{lentField};
+ghost use Rattle.state.specs.InnerSizes.{AllSized, lentLengths};
 ghost use Rattle.record.specs.InnerRecord.{recordOf};
 ghost use Rattle.record.specs.Record.{skipRecord};
 ghost use Rattle.record.specs.Range.{RecordRange};
+ghost use Rattle.apply.specs.InnerMoved.{PlanesSized};
 ghost use Rattle.apply.specs.Apply.{appliedLuma, appliedChroma, appliedField};
 use crate::svq3_frame::compensate_chroma;
 use crate::svq3_frame::compensate_luma;
@@ -30,7 +32,7 @@ pub fn apply_luma(
     head: Head,
 )
     requires { ⌜ (cols ≤ 4096) × (rows ≤ 4096) × RecordRange cols rows (recordOf head (now vectors) (now levels)) × (0 < head .mode) × (length (now vectors) ≡ 32) × (length (now levels) ≡ 392) ⌝ }
-    requires { ⌜ (length (now pic) ≡ lumaLength cols rows) × (length (now reference) ≡ lumaLength cols rows) ⌝ }
+    requires { ⌜ PlanesSized false cols rows pic reference ⌝ }
     ensures { λ _. ⌜ now (pic .exit) ≡ appliedLuma cols rows (now (reference .entry)) (recordOf head (now (vectors .entry)) (now (levels .entry))) (now (pic .entry)) ⌝ }
 {
     let column = head.column;
@@ -54,7 +56,7 @@ pub fn apply_chroma(
     head: Head,
 )
     requires { ⌜ (cols ≤ 4096) × (rows ≤ 4096) × RecordRange cols rows (recordOf head (now vectors) (now levels)) × (0 < head .mode) × (length (now vectors) ≡ 32) × (length (now levels) ≡ 392) ⌝ }
-    requires { ⌜ (length (now cb) ≡ chromaLength cols rows) × (length (now rcb) ≡ chromaLength cols rows) × (length (now cr) ≡ chromaLength cols rows) × (length (now rcr) ≡ chromaLength cols rows) ⌝ }
+    requires { ⌜ PlanesSized true cols rows cb rcb × PlanesSized true cols rows cr rcr ⌝ }
     ensures { λ _. ⌜ now (cb .exit) ≡ appliedChroma 0 cols rows (now (rcb .entry)) (recordOf head (now (vectors .entry)) (now (levels .entry))) (now (cb .entry)) ⌝ }
     ensures { λ _. ⌜ now (cr .exit) ≡ appliedChroma 1 cols rows (now (rcr .entry)) (recordOf head (now (vectors .entry)) (now (levels .entry))) (now (cr .entry)) ⌝ }
 {
@@ -84,7 +86,7 @@ pub fn apply_coded(
     head: Head,
 )
     requires { ⌜ (cols ≤ 4096) × (rows ≤ 4096) × RecordRange cols rows (recordOf head (now vectors) (now levels)) × (0 < head .mode) × (length (now vectors) ≡ 32) × (length (now levels) ≡ 392) ⌝ }
-    requires { ⌜ Sized cols rows (length (now y)) (length (now cb)) (length (now cr)) × Sized cols rows (length (now ry)) (length (now rcb)) (length (now rcr)) × (length (now mv) ≡ 2 * cellCount cols rows) × (length (now marks) ≡ cellCount cols rows) ⌝ }
+    requires { ⌜ AllSized cols rows (lentLengths y cb cr mv marks ry rcb rcr) ⌝ }
     ensures { λ _. ⌜ now (y .exit) ≡ appliedLuma cols rows (now (ry .entry)) (recordOf head (now (vectors .entry)) (now (levels .entry))) (now (y .entry)) ⌝ }
     ensures { λ _. ⌜ now (cb .exit) ≡ appliedChroma 0 cols rows (now (rcb .entry)) (recordOf head (now (vectors .entry)) (now (levels .entry))) (now (cb .entry)) ⌝ }
     ensures { λ _. ⌜ now (cr .exit) ≡ appliedChroma 1 cols rows (now (rcr .entry)) (recordOf head (now (vectors .entry)) (now (levels .entry))) (now (cr .entry)) ⌝ }
@@ -115,7 +117,7 @@ pub fn apply_skip(
     row: usize,
 )
     requires { ⌜ Within cols rows column row ⌝ }
-    requires { ⌜ Sized cols rows (length (now y)) (length (now cb)) (length (now cr)) × Sized cols rows (length (now ry)) (length (now rcb)) (length (now rcr)) × (length (now mv) ≡ 2 * cellCount cols rows) × (length (now marks) ≡ cellCount cols rows) ⌝ }
+    requires { ⌜ AllSized cols rows (lentLengths y cb cr mv marks ry rcb rcr) ⌝ }
     ensures { λ _. ⌜ now (y .exit) ≡ appliedLuma cols rows (now (ry .entry)) (skipRecord column row) (now (y .entry)) ⌝ }
     ensures { λ _. ⌜ now (cb .exit) ≡ appliedChroma 0 cols rows (now (rcb .entry)) (skipRecord column row) (now (cb .entry)) ⌝ }
     ensures { λ _. ⌜ now (cr .exit) ≡ appliedChroma 1 cols rows (now (rcr .entry)) (skipRecord column row) (now (cr .entry)) ⌝ }

@@ -10,7 +10,7 @@ ghost use Rattle.compensation.specs.InnerBlock.{Span};
 ghost use Rattle.compensation.specs.InnerTaps.{Placed, TapsIn};
 ghost use Rattle.vectors.specs.Modes.{numMotionVectors};
 ghost use Rattle.apply.specs.Moved.{unit, vectorX, vectorY, movedOnce, movedUpTo};
-ghost use Rattle.apply.specs.InnerMoved.{planeLength, partBlock};
+ghost use Rattle.apply.specs.InnerMoved.{PlanesSized, partBlock};
 use compensation::svq3_mc::Taps;
 use compensation::svq3_mc::compensate_both;
 use compensation::svq3_mc::compensate_taps;
@@ -79,7 +79,7 @@ fn compensate_partition(
     i: usize,
 )
     requires { ⌜ Within cols rows (call .column) (call .row) × (call .mode ≤ 7) × (i < numMotionVectors (call .mode)) ⌝ }
-    requires { ⌜ (length (now pic) ≡ planeLength (unit false) cols rows) × (length (now reference) ≡ planeLength (unit false) cols rows) × (length (now vectors) ≡ 32) ⌝ }
+    requires { ⌜ PlanesSized false cols rows pic reference × (length (now vectors) ≡ 32) ⌝ }
     ensures { λ _. ⌜ now (pic .exit) ≡ movedOnce (unit false) cols rows (now (reference .entry)) call (now (vectors .entry)) i (now (pic .entry)) ⌝ }
 {
     let b = block_of(call, cols, false, i);
@@ -101,7 +101,7 @@ pub fn compensate_luma(
     call: Call,
 )
     requires { ⌜ Within cols rows (call .column) (call .row) × (call .mode ≤ 7) ⌝ }
-    requires { ⌜ (length (now pic) ≡ planeLength (unit false) cols rows) × (length (now reference) ≡ planeLength (unit false) cols rows) × (length (now vectors) ≡ 32) ⌝ }
+    requires { ⌜ PlanesSized false cols rows pic reference × (length (now vectors) ≡ 32) ⌝ }
     ensures { λ _. ⌜ now (pic .exit) ≡ movedUpTo (numMotionVectors (call .mode)) (unit false) cols rows (now (reference .entry)) call (now (vectors .entry)) (now (pic .entry)) ⌝ }
 {
     let n = num_motion_vectors(call.mode);
@@ -125,7 +125,7 @@ fn compensate_pair(
     i: usize,
 )
     requires { ⌜ Within cols rows (call .column) (call .row) × (call .mode ≤ 7) × (i < numMotionVectors (call .mode)) ⌝ }
-    requires { ⌜ (length (now cb) ≡ planeLength (unit true) cols rows) × (length (now rcb) ≡ planeLength (unit true) cols rows) × (length (now cr) ≡ planeLength (unit true) cols rows) × (length (now rcr) ≡ planeLength (unit true) cols rows) × (length (now vectors) ≡ 32) ⌝ }
+    requires { ⌜ PlanesSized true cols rows cb rcb × PlanesSized true cols rows cr rcr × (length (now vectors) ≡ 32) ⌝ }
     ensures { λ _. ⌜ now (cb .exit) ≡ movedOnce (unit true) cols rows (now (rcb .entry)) call (now (vectors .entry)) i (now (cb .entry)) ⌝ }
     ensures { λ _. ⌜ now (cr .exit) ≡ movedOnce (unit true) cols rows (now (rcr .entry)) call (now (vectors .entry)) i (now (cr .entry)) ⌝ }
 {
@@ -150,7 +150,7 @@ pub fn compensate_chroma(
     call: Call,
 )
     requires { ⌜ Within cols rows (call .column) (call .row) × (call .mode ≤ 7) ⌝ }
-    requires { ⌜ (length (now cb) ≡ planeLength (unit true) cols rows) × (length (now rcb) ≡ planeLength (unit true) cols rows) × (length (now cr) ≡ planeLength (unit true) cols rows) × (length (now rcr) ≡ planeLength (unit true) cols rows) × (length (now vectors) ≡ 32) ⌝ }
+    requires { ⌜ PlanesSized true cols rows cb rcb × PlanesSized true cols rows cr rcr × (length (now vectors) ≡ 32) ⌝ }
     ensures { λ _. ⌜ now (cb .exit) ≡ movedUpTo (numMotionVectors (call .mode)) (unit true) cols rows (now (rcb .entry)) call (now (vectors .entry)) (now (cb .entry)) ⌝ }
     ensures { λ _. ⌜ now (cr .exit) ≡ movedUpTo (numMotionVectors (call .mode)) (unit true) cols rows (now (rcr .entry)) call (now (vectors .entry)) (now (cr .entry)) ⌝ }
 {

@@ -38,7 +38,7 @@ module _ {whole s : State} {bytes : List ℕ} {at : ℕ} (g : Replaying whole s 
     next-record : Next (parseRecord (s .cols) (s .rows)) (records (s .cols) (s .rows)) bytes at (g .recorded .rs)
     next-record = records-next (s .cols) (s .rows) wide high bytes at (g .recorded .rs) (g .recorded .taken) lt (g .recorded .is)
 
-    module _ {t : State} {next : ℕ} (p : Stepped (parseRecord (s .cols) (s .rows) (drop at bytes)) at next s t) where
+    module _ {t : State} {next : ℕ} (p : Stepped bytes at next s t) where
       next-is : next ≡ at + next-record .k
       next-is = p .moved (next-record .x) (next-record .k) (next-record .reads)
 

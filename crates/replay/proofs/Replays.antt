@@ -8,13 +8,12 @@ use native.Mathlib.Omega.{arith}
 use lib.ListN.{length}
 use Rattle.refusal.specs.Got.{Got, got, refused}
 use Rattle.refusal.specs.declared.Refusal.{Refusal}
-use Rattle.picture.specs.InnerPicture.{Sized}
-use Rattle.picture.specs.Picture.{cellCount}
+use Rattle.state.specs.InnerSizes.{AllSized}
 use Rattle.state.specs.Questions.{gridRight, askReplay, askQuantiser}
 use Rattle.state.specs.declared.Asked.{Asked}
 use Rattle.state.specs.declared.Asked.the-variants.{Yes, No}
 use Rattle.state.proofs.Laws.{Grid, grid}
-use Rattle.state.proofs.Yes.{Started, started, StateSized, state-sized, planes-sized}
+use Rattle.state.proofs.Yes.{Started, started, all-sized}
 use Rattle.record.specs.Record.{Record}
 use Rattle.transcript.specs.Records.{records}
 use Rattle.transcript.specs.Check.{checkAnswer}
@@ -47,11 +46,8 @@ module _ (s : State) (bytes : List ℕ) where
     pub in-grid : Grid (s .cols) (s .rows)
     in-grid = grid (s .cols) (s .rows) right
 
-    pub sized : StateSized (s .cols) (s .rows) (lengthsOf s)
-    sized = state-sized (s .cols) (s .rows) (lengthsOf s) (facts .two)
-
-    pub reference : Sized (s .cols) (s .rows) (length (s .ry)) (length (s .rcb)) (length (s .rcr))
-    reference = planes-sized (s .cols) (s .rows) (length (s .ry)) (length (s .rcb)) (length (s .rcr)) (facts .four)
+    pub sized : AllSized (s .cols) (s .rows) (lengthsOf s)
+    sized = all-sized (s .cols) (s .rows) (lengthsOf s) facts
 
     asked-is : replayOf s (records (s .cols) (s .rows) bytes) ≡ replayed s bytes
     unfolding replayed

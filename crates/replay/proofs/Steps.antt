@@ -35,19 +35,19 @@ module _ (s : State) (bytes : List ℕ) (at : ℕ) where
   read = parseRecord (s .cols) (s .rows) (drop at bytes)
 
   -- none is there
-  none : (why : Refusal) → read ≡ refused why → (next : ℕ) (t : State) → Stepped read at next s t
+  none : (why : Refusal) → read ≡ refused why → (next : ℕ) (t : State) → Stepped bytes at next s t
   none why e next t = record { moved = λ r n f. never (sym e ∙ f); leaves = λ r n f. never (sym e ∙ f) }
 
-  pub no-place : (why : Refusal) → place.Refused why ≡ placeAnswer at (parsePlace (s .cols) (s .rows) (drop at bytes)) → (next : ℕ) (t : State) → Stepped (parseRecord (s .cols) (s .rows) (drop at bytes)) at next s t
+  pub no-place : (why : Refusal) → place.Refused why ≡ placeAnswer at (parsePlace (s .cols) (s .rows) (drop at bytes)) → (next : ℕ) (t : State) → Stepped bytes at next s t
   no-place why e = none why (not-read (s .cols) (s .rows) bytes at why e)
 
   -- one is
-  done : (x : Record) (k next : ℕ) → read ≡ got x k → next ≡ at + k → (t : State) → t ≡ applied s x → Stepped read at next s t
+  done : (x : Record) (k next : ℕ) → read ≡ got x k → next ≡ at + k → (t : State) → t ≡ applied s x → Stepped bytes at next s t
   done x k next e m t w = record { moved = λ r n f. m ∙ ap (λ (j : ℕ). at + j) (got-count (sym e ∙ f)); leaves = λ r n f. w ∙ ap (applied s) (got-value (sym e ∙ f)) }
 
   -- a skip
   pub skip-step : (column row next : ℕ) → place.Skip column row next ≡ placeAnswer at (parsePlace (s .cols) (s .rows) (drop at bytes)) → (t : State) → t ≡ applied s (skipRecord column row)
-      → Stepped (parseRecord (s .cols) (s .rows) (drop at bytes)) at next s t
+      → Stepped bytes at next s t
   skip-step column row next e = let r = skip-read (s .cols) (s .rows) bytes at column row next e in done (skipRecord column row) (r .taken) next (r .is) (r .moved)
 
   -- another one, whose motion was read
@@ -55,7 +55,7 @@ module _ (s : State) (bytes : List ℕ) (at : ℕ) where
     whole-is : Parsing at read a vs ls
     whole-is = coded-parsed (s .cols) (s .rows) bytes at h next e a vs ls p
 
-    pub no-motion : (why : Refusal) → a ≡ Refused why → (end : ℕ) (t : State) → Stepped (parseRecord (s .cols) (s .rows) (drop at bytes)) at end s t
+    pub no-motion : (why : Refusal) → a ≡ Refused why → (end : ℕ) (t : State) → Stepped bytes at end s t
     no-motion why i = none why (parse-refused at read why vs ls (rw i at whole-is))
 
     module _ (o : Head) (end : ℕ) (i : a ≡ Parsed o end) where
@@ -72,7 +72,7 @@ module _ (s : State) (bytes : List ℕ) (at : ℕ) where
           let k = motion-format h (used-most (h .mode) (c .range .mode)) .came (drop next bytes) (recordOf o vs ls) (b .taken) (b .is) .in-range in
           omega (arith, ap (λ (x : Head). x .mode) (k .rest .head), c .coded)
 
-      pub coded-step : (t : State) → t ≡ applied s (recordOf o vs ls) → Stepped (parseRecord (s .cols) (s .rows) (drop at bytes)) at end s t
+      pub coded-step : (t : State) → t ≡ applied s (recordOf o vs ls) → Stepped bytes at end s t
       coded-step = done (recordOf o vs ls) (by .taken) end (by .is) (by .moved)
 
 -- the work of a record that is no skip, list by list

@@ -1,10 +1,8 @@
 // One record of a transcript, its work done again.
 ghost use mathlib.Core.Path.{_≡_};
-ghost use Prim.Native.Nat.{_*_, _≤_};
-ghost use lib.ListN.{length, drop};
-ghost use Rattle.picture.specs.InnerPicture.{Sized};
-ghost use Rattle.picture.specs.Picture.{cellCount};
-ghost use Rattle.record.specs.Parse.{parseRecord};
+ghost use Prim.Native.Nat.{_≤_};
+ghost use lib.ListN.{drop};
+ghost use Rattle.state.specs.InnerSizes.{AllSized, lentLengths};
 ghost use Rattle.transcript.specs.InnerParsing.{placeAnswer};
 ghost use Rattle.transcript.specs.InnerPlace.{parsePlace};
 ghost use Rattle.macroblock.specs.Entry.{stateBefore, stateAfter};
@@ -42,8 +40,9 @@ fn replay_coded(
     next: usize,
 ) -> Step
     requires { ⌜ (frame .cols ≤ 4096) × (frame .rows ≤ 4096) × (PlaceAnswer.Coded head next ≡ placeAnswer at (parsePlace (frame .cols) (frame .rows) (drop at (now bytes)))) ⌝ }
-    requires { ⌜ Sized (frame .cols) (frame .rows) (length (now y)) (length (now cb)) (length (now cr)) × Sized (frame .cols) (frame .rows) (length (now ry)) (length (now rcb)) (length (now rcr)) × (length (now mv) ≡ 2 * cellCount (frame .cols) (frame .rows)) × (length (now marks) ≡ cellCount (frame .cols) (frame .rows)) ⌝ }
-    ensures { λ r. ⌜ Stepped (parseRecord (frame .cols) (frame .rows) (drop at (now (bytes .entry)))) at (r .next) (stateBefore frame quantiser ry rcb rcr y cb cr mv marks) (stateAfter frame (r .quantiser) ry rcb rcr y cb cr mv marks) ⌝ }
+    requires { ⌜ AllSized (frame .cols) (frame .rows) (lentLengths y cb cr mv marks ry rcb rcr) ⌝ }
+    ensures { λ r. ⌜ Stepped (now (bytes .entry)) at (r .next) (stateBefore frame quantiser ry rcb rcr y cb cr mv marks)
+        (stateAfter frame (r .quantiser) ry rcb rcr y cb cr mv marks) ⌝ }
 {
     let mut vectors = [0i32; 32];
     let mut levels = [0i32; 392];
@@ -88,8 +87,9 @@ pub fn replay_record(
     at: usize,
 ) -> Step
     requires { ⌜ (frame .cols ≤ 4096) × (frame .rows ≤ 4096) ⌝ }
-    requires { ⌜ Sized (frame .cols) (frame .rows) (length (now y)) (length (now cb)) (length (now cr)) × Sized (frame .cols) (frame .rows) (length (now ry)) (length (now rcb)) (length (now rcr)) × (length (now mv) ≡ 2 * cellCount (frame .cols) (frame .rows)) × (length (now marks) ≡ cellCount (frame .cols) (frame .rows)) ⌝ }
-    ensures { λ r. ⌜ Stepped (parseRecord (frame .cols) (frame .rows) (drop at (now (bytes .entry)))) at (r .next) (stateBefore frame quantiser ry rcb rcr y cb cr mv marks) (stateAfter frame (r .quantiser) ry rcb rcr y cb cr mv marks) ⌝ }
+    requires { ⌜ AllSized (frame .cols) (frame .rows) (lentLengths y cb cr mv marks ry rcb rcr) ⌝ }
+    ensures { λ r. ⌜ Stepped (now (bytes .entry)) at (r .next) (stateBefore frame quantiser ry rcb rcr y cb cr mv marks)
+        (stateAfter frame (r .quantiser) ry rcb rcr y cb cr mv marks) ⌝ }
 {
     match parse_place(bytes, at, frame.cols, frame.rows) {
         PlaceAnswer::Skip(column, row, next) => {

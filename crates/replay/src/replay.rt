@@ -1,9 +1,7 @@
 // The replay of a transcript.
 ghost use mathlib.Core.Path.{_≡_};
-ghost use Prim.Native.Nat.{_*_, _≤_};
-ghost use lib.ListN.{length};
-ghost use Rattle.picture.specs.InnerPicture.{Sized};
-ghost use Rattle.picture.specs.Picture.{cellCount};
+ghost use Prim.Native.Nat.{_≤_};
+ghost use Rattle.state.specs.InnerSizes.{AllSized, lentLengths};
 ghost use Rattle.macroblock.specs.Entry.{stateBefore, stateAfter};
 ghost use Rattle.replay.specs.Replay.{replayed, quantiserOf, replayLeft};
 ghost use Rattle.replay.specs.InnerRecorded.{Recorded, allLeft};
@@ -32,7 +30,7 @@ fn replay_records(
     quantiser: u32,
 ) -> u32
     requires { ⌜ (frame .cols ≤ 4096) × (frame .rows ≤ 4096) × Recorded (frame .cols) (frame .rows) (now bytes) ⌝ }
-    requires { ⌜ Sized (frame .cols) (frame .rows) (length (now y)) (length (now cb)) (length (now cr)) × Sized (frame .cols) (frame .rows) (length (now ry)) (length (now rcb)) (length (now rcr)) × (length (now mv) ≡ 2 * cellCount (frame .cols) (frame .rows)) × (length (now marks) ≡ cellCount (frame .cols) (frame .rows)) ⌝ }
+    requires { ⌜ AllSized (frame .cols) (frame .rows) (lentLengths y cb cr mv marks ry rcb rcr) ⌝ }
     ensures { λ r. ⌜ stateAfter frame r ry rcb rcr y cb cr mv marks
         ≡ allLeft (stateBefore frame quantiser ry rcb rcr y cb cr mv marks) (now (bytes .entry)) ⌝ }
 {

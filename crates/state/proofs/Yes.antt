@@ -10,6 +10,7 @@ use Rattle.refusal.specs.declared.Refusal.{Refusal}
 use Rattle.picture.specs.InnerPicture.{Sized}
 use Rattle.picture.specs.Picture.{lumaLength, chromaLength, cellCount}
 use Rattle.state.specs.Questions.{thenAsk, gridRight, planesRight, stateRight, referenceThere, callRight, placeIn, askStart, askQuantiser, askPlace, askRest, askCall}
+use Rattle.state.specs.InnerSizes.{AllSized}
 use Rattle.state.specs.declared.Call.{Call}
 use Rattle.state.specs.declared.Lengths.{Lengths}
 use Rattle.state.specs.declared.Asked.{Asked}
@@ -17,10 +18,10 @@ use Rattle.state.specs.declared.Asked.the-variants.{Yes, No}
 use Rattle.picture.proofs.Laws.{both-true}
 use Rattle.state.proofs.Laws.{Grid, grid}
 
-pub no-yes : {A : Type 0} {why : Refusal} → No why ≡ Yes → A
+no-yes : {A : Type 0} {why : Refusal} → No why ≡ Yes → A
 no-yes e = absurd (let z : _≡_ {A = ℕ} 0 1 = cc in omega arith)
 
-pub ask-yes : (t : Bool) (why : Refusal) (next : Asked) → thenAsk t why next ≡ Yes → (t ≡ true) × (next ≡ Yes)
+ask-yes : (t : Bool) (why : Refusal) (next : Asked) → thenAsk t why next ≡ Yes → (t ≡ true) × (next ≡ Yes)
 ask-yes true why next e = (refl, e)
 ask-yes false why next e = no-yes e
 
@@ -41,25 +42,25 @@ started cols rows l next e =
     let d = ask-yes (planesRight cols rows (l .ry) (l .rcb) (l .rcr)) _ _ (c .1) in
     record { one = a .0; two = b .0; three = c .0; four = d .0; others = d .1 }
 
-pub planes-sized : (cols rows y cb cr : ℕ) → planesRight cols rows y cb cr ≡ true → Sized cols rows y cb cr
+planes-sized : (cols rows y cb cr : ℕ) → planesRight cols rows y cb cr ≡ true → Sized cols rows y cb cr
 unfolding planesRight
 planes-sized cols rows y cb cr e =
     let a = both-true (eqb y (lumaLength cols rows) && eqb cb (chromaLength cols rows)) (eqb cr (chromaLength cols rows)) e in
     let b = both-true (eqb y (lumaLength cols rows)) (eqb cb (chromaLength cols rows)) (a .0) in
     record { luma-right = eqb-true _ _ (b .0); cb-right = eqb-true _ _ (b .1); cr-right = eqb-true _ _ (a .1) }
 
--- 2
-pub record StateSized (cols rows : ℕ) (l : Lengths) : Type 0 where
-  pub picture : Sized cols rows (l .y) (l .cb) (l .cr)
-  pub mv : l .mv ≡ 2 * cellCount cols rows
-  pub marks : l .marks ≡ cellCount cols rows
-
-pub state-sized : (cols rows : ℕ) (l : Lengths) → stateRight cols rows l ≡ true → StateSized cols rows l
+-- so the slices have the grid's lengths
+pub all-sized : (cols rows : ℕ) (l : Lengths) {next : Asked} → Started cols rows l next → AllSized cols rows l
 unfolding stateRight
-state-sized cols rows l e =
-    let a = both-true (planesRight cols rows (l .y) (l .cb) (l .cr) && eqb (l .mv) (2 * cellCount cols rows)) (eqb (l .marks) (cellCount cols rows)) e in
+all-sized cols rows l st =
+    let a = both-true (planesRight cols rows (l .y) (l .cb) (l .cr) && eqb (l .mv) (2 * cellCount cols rows)) (eqb (l .marks) (cellCount cols rows)) (st .two) in
     let b = both-true (planesRight cols rows (l .y) (l .cb) (l .cr)) (eqb (l .mv) (2 * cellCount cols rows)) (a .0) in
-    record { picture = planes-sized cols rows (l .y) (l .cb) (l .cr) (b .0); mv = eqb-true _ _ (b .1); marks = eqb-true _ _ (a .1) }
+    record {
+      picture = planes-sized cols rows (l .y) (l .cb) (l .cr) (b .0);
+      mv = eqb-true _ _ (b .1);
+      marks = eqb-true _ _ (a .1);
+      reference = planes-sized cols rows (l .ry) (l .rcb) (l .rcr) (st .four);
+    }
 
 -- 5 to 8 passed
 pub record Rest (cols rows : ℕ) (call : Call) (quantiser size place free : ℕ) : Type 0 where
@@ -92,8 +93,7 @@ rest-yes cols rows call quantiser size place free e =
 -- 1 to 8 passed
 pub record Called (cols rows : ℕ) (l : Lengths) (call : Call) (quantiser size place free : ℕ) : Type 0 where
   pub in-grid : Grid cols rows
-  pub sized : StateSized cols rows l
-  pub reference : Sized cols rows (l .ry) (l .rcb) (l .rcr)
+  pub sized : AllSized cols rows l
   pub rest : Rest cols rows call quantiser size place free
 
 pub call-yes : (cols rows : ℕ) (l : Lengths) (call : Call) (quantiser size place free : ℕ) → askCall cols rows l call quantiser size place free ≡ Yes → Called cols rows l call quantiser size place free
@@ -102,7 +102,6 @@ call-yes cols rows l call quantiser size place free e =
     let st = started cols rows l _ e in
     record {
       in-grid = grid cols rows (st .one);
-      sized = state-sized cols rows l (st .two);
-      reference = planes-sized cols rows (l .ry) (l .rcb) (l .rcr) (st .four);
+      sized = all-sized cols rows l st;
       rest = rest-yes cols rows call quantiser size place free (st .others);
     }

@@ -28,7 +28,7 @@ use Rattle.compensation.proofs.Between.{Between, least, greatest, sample-taps}
 use Rattle.levels.specs.Pattern.{classOf, quadrantCoded}
 use Rattle.state.specs.Questions.{askReplay}
 use Rattle.state.specs.declared.Call.{Call}
-use Rattle.state.proofs.Yes.{started, StateSized, state-sized}
+use Rattle.state.proofs.Yes.{started, all-sized}
 use Rattle.record.specs.Record.{Record}
 use Rattle.reading.specs.Read.{readMacroblock}
 use Rattle.reading.specs.Bits.{callOf}
@@ -37,6 +37,7 @@ use Rattle.apply.specs.Moved.{vectorX, vectorY, partX, partY, movedUpTo}
 use Rattle.apply.specs.Blocks.{chromaAdded}
 use Rattle.apply.specs.Apply.{appliedChroma}
 use Rattle.apply.proofs.Macroblocks.{skip-luma, coded-luma, skip-chroma, coded-chroma}
+use Rattle.state.specs.InnerSizes.{AllSized}
 use Rattle.state.specs.State.{State, contextOf, lengthsOf}
 use Rattle.macroblock.specs.Decode.{applied, Outcome, outcomeOf, decoded}
 use Rattle.macroblock.specs.declared.MbReport.{MbReport}
@@ -54,7 +55,7 @@ pub record Reading (s : State) (call : Call) (bits : List ℕ) (place : ℕ) (af
   pub is : readMacroblock (contextOf s) call (drop place (bitList bits)) ≡ got read count
   pub leaves : after ≡ applied s read
   pub ready : Ready s call
-  pub sized : StateSized (s .cols) (s .rows) (lengthsOf s)
+  pub sized : AllSized (s .cols) (s .rows) (lengthsOf s)
 
 pub accepted-reads : (s : State) (call : Call) (bits : List ℕ) (place : ℕ) (t : List ℕ) (fill : ℕ) {report : MbReport} → decoded s call bits place t fill .answer ≡ Accepted report
     → Reading s call bits place (decoded s call bits place t fill .state)
@@ -69,7 +70,7 @@ accepted-reads s call bits place t fill a = go (kind s call bits place t fill)
       is = h;
       leaves = ap (λ (o : Outcome). o .state) e;
       ready = asks .ready;
-      sized = state-sized (s .cols) (s .rows) (lengthsOf s) (started (s .cols) (s .rows) (lengthsOf s) _ (asks .replay) .two);
+      sized = all-sized (s .cols) (s .rows) (lengthsOf s) (started (s .cols) (s .rows) (lengthsOf s) _ (asks .replay));
     }
 
 -- the record r, at its own place
@@ -79,7 +80,7 @@ record Applying (s : State) (call : Call) (r : Record) (after : State) : Type 0 
   pub mode : r .head .mode ≤ 7
   pub column : r .head .column < s .cols
   pub row : r .head .row < s .rows
-  pub sized : StateSized (s .cols) (s .rows) (lengthsOf s)
+  pub sized : AllSized (s .cols) (s .rows) (lengthsOf s)
 
 applying : {s : State} {call : Call} (bits : List ℕ) (place : ℕ) {after : State} {r : Record} {n : ℕ} → Reading s call bits place after → readMacroblock (contextOf s) call (drop place (bitList bits)) ≡ got r n → Applying s call r after
 applying {s} {call} bits place {after} {r} {n} x h =

@@ -12,19 +12,19 @@ use Rattle.apply.proofs.applied.apply_chroma.Tie as tie
 compensate-chroma-requires : tie.Need-compensate-chroma-requires
 compensate-chroma-requires c κs =
     let s = c .before .before .before .before .before .before in
-    ((place-within (s .pre .0 .2) (s .pre .0 .0) (s .pre .0 .1), s .pre .0 .2 .mode), (s .pre .1 .0, s .pre .1 .1, s .pre .1 .2, s .pre .1 .3, s .pre .0 .4))
+    ((place-within (s .pre .0 .2) (s .pre .0 .0) (s .pre .0 .1), s .pre .0 .2 .mode), (s .pre .1 .0, s .pre .1 .1, s .pre .0 .4))
 
 add-chroma-requires : tie.Need-add-chroma-requires
 add-chroma-requires c κs =
     let s = c .before .before .before .before .before .before .before .before .before .before .before .before in
     let k = s .pre .0 .2 .coded (s .pre .0 .3) in
-    ((place-within (s .pre .0 .2) (s .pre .0 .0) (s .pre .0 .1), lit< tt), (c .before .before .before .before .before .compensate-chroma .kept .0 ∙ s .pre .1 .0, k .pattern, k .quantiser, k .levels))
+    ((place-within (s .pre .0 .2) (s .pre .0 .0) (s .pre .0 .1), lit< tt), (c .before .before .before .before .before .compensate-chroma .kept .0 ∙ s .pre .1 .0 .0, k .pattern, k .quantiser, k .levels))
 
 add-chroma-requires-2 : tie.Need-add-chroma-requires-2
 add-chroma-requires-2 c κs =
     let s = c .before .before .before .before .before .before .before .before .before .before .before .before .before .before .before .before in
     let k = s .pre .0 .2 .coded (s .pre .0 .3) in
-    ((place-within (s .pre .0 .2) (s .pre .0 .0) (s .pre .0 .1), lit< tt), (c .before .before .before .before .before .before .before .before .before .compensate-chroma .kept .1 .0 ∙ s .pre .1 .2, k .pattern, k .quantiser, k .levels))
+    ((place-within (s .pre .0 .2) (s .pre .0 .0) (s .pre .0 .1), lit< tt), (c .before .before .before .before .before .before .before .before .before .compensate-chroma .kept .1 .0 ∙ s .pre .1 .1 .0, k .pattern, k .quantiser, k .levels))
 
 returns : tie.Need-returns
 returns c =

@@ -9,15 +9,15 @@ use Rattle.apply.proofs.applied.apply_coded.Statement.{statement}
 use Rattle.apply.proofs.applied.apply_coded.Tie as tie
 
 apply-luma-requires : tie.Need-apply-luma-requires
-apply-luma-requires c κs = let s = c .before .before .before .before .before .before .before .before in (s .pre .0, (s .pre .1 .0 .luma-right, s .pre .1 .1 .luma-right))
+apply-luma-requires c κs = let s = c .before .before .before .before .before .before .before .before in (s .pre .0, (s .pre .1 .picture .luma-right, s .pre .1 .reference .luma-right))
 
 apply-chroma-requires : tie.Need-apply-chroma-requires
-apply-chroma-requires c κs = let s = c .before .before .before .before .before .before .before .before .before .before .before .before .before in (s .pre .0, (s .pre .1 .0 .cb-right, s .pre .1 .1 .cb-right, s .pre .1 .0 .cr-right, s .pre .1 .1 .cr-right))
+apply-chroma-requires c κs = let s = c .before .before .before .before .before .before .before .before .before .before .before .before .before in (s .pre .0, ((s .pre .1 .picture .cb-right, s .pre .1 .reference .cb-right), (s .pre .1 .picture .cr-right, s .pre .1 .reference .cr-right)))
 
 store-partitions-requires : tie.Need-store-partitions-requires
 store-partitions-requires c κs =
     let s = c .before .before .before .before .before .before .before .before .before .before .before .before .before .before .before .before .before .before .before .before in
-    ((place-within (s .pre .0 .2) (s .pre .0 .0) (s .pre .0 .1), s .pre .0 .2 .mode, s .pre .0 .3), (s .pre .1 .2, s .pre .1 .3, s .pre .0 .4))
+    ((place-within (s .pre .0 .2) (s .pre .0 .0) (s .pre .0 .1), s .pre .0 .2 .mode, s .pre .0 .3), (s .pre .1 .mv, s .pre .1 .marks, s .pre .0 .4))
 
 returns : tie.Need-returns
 returns c =

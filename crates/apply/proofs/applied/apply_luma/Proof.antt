@@ -11,7 +11,7 @@ use Rattle.apply.proofs.applied.apply_luma.Tie as tie
 compensate-luma-requires : tie.Need-compensate-luma-requires
 compensate-luma-requires c κs =
     let s = c .before .before .before in
-    ((place-within (s .pre .0 .2) (s .pre .0 .0) (s .pre .0 .1), s .pre .0 .2 .mode), (s .pre .1 .0, s .pre .1 .1, s .pre .0 .4))
+    ((place-within (s .pre .0 .2) (s .pre .0 .0) (s .pre .0 .1), s .pre .0 .2 .mode), (s .pre .1, s .pre .0 .4))
 
 add-luma-requires : tie.Need-add-luma-requires
 add-luma-requires c κs =

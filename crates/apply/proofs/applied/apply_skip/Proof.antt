@@ -9,10 +9,10 @@ use Rattle.apply.proofs.applied.apply_skip.Statement.{statement}
 use Rattle.apply.proofs.applied.apply_skip.Tie as tie
 
 copy-macroblock-from-requires : tie.Need-copy-macroblock-from-requires
-copy-macroblock-from-requires c κs = let s = c .before .before .before .before .before .before .before .before .before .before in (s .pre .0, (s .pre .1 .0, s .pre .1 .1))
+copy-macroblock-from-requires c κs = let s = c .before .before .before .before .before .before .before .before .before .before in (s .pre .0, (s .pre .1 .picture, s .pre .1 .reference))
 
 mark-macroblock-requires : tie.Need-mark-macroblock-requires
-mark-macroblock-requires c κs = let s = c .before .before .before .before .before .before .before .before .before .before .before .before .before .before .before .before .before .before .before in (s .pre .0 .wide, s .pre .1 .2 ∙ ap (λ (n : ℕ). 2 * n) (sym (s .pre .1 .3)), macroblock-cells (s .pre .0) (s .pre .1 .3))
+mark-macroblock-requires c κs = let s = c .before .before .before .before .before .before .before .before .before .before .before .before .before .before .before .before .before .before .before in (s .pre .0 .wide, s .pre .1 .mv ∙ ap (λ (n : ℕ). 2 * n) (sym (s .pre .1 .marks)), macroblock-cells (s .pre .0) (s .pre .1 .marks))
 
 returns : tie.Need-returns
 returns c =

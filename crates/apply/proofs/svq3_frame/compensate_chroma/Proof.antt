@@ -26,7 +26,7 @@ compensate-pair-requires c κs =
     let s = c .before .before .before .before .before .before .before .before .before in
     let l = c .before .before .before .loop .inv in (
       (s .pre .0 .0, s .pre .0 .1, omega (arith, c .before .before .before .before .num-motion-vectors .ensures)),
-      (ap length (l .1) ∙ moved-all-length _ _ _ _ _ _ _ _ ∙ s .pre .1 .0, s .pre .1 .1, ap length (l .2) ∙ moved-all-length _ _ _ _ _ _ _ _ ∙ s .pre .1 .2, s .pre .1 .3, s .pre .1 .4),
+      ((ap length (l .1) ∙ moved-all-length _ _ _ _ _ _ _ _ ∙ s .pre .1 .0 .0, s .pre .1 .0 .1), (ap length (l .2) ∙ moved-all-length _ _ _ _ _ _ _ _ ∙ s .pre .1 .1 .0, s .pre .1 .1 .1), s .pre .1 .2),
     )
 
 loop-again : tie.Need-loop-again Inv-loop μ-loop

@@ -26,7 +26,7 @@ compensate-partition-requires c κs =
     let s = c .before .before .before .before .before .before in
     let a = s .args in (
       (s .pre .0 .0, s .pre .0 .1, omega (arith, c .before .before .before .num-motion-vectors .ensures)),
-      (ap length (c .before .before .loop .inv .1) ∙ moved-all-length _ _ _ _ _ _ _ _ ∙ s .pre .1 .0, s .pre .1 .1, s .pre .1 .2),
+      ((ap length (c .before .before .loop .inv .1) ∙ moved-all-length _ _ _ _ _ _ _ _ ∙ s .pre .1 .0 .0, s .pre .1 .0 .1), s .pre .1 .1),
     )
 
 loop-again : tie.Need-loop-again Inv-loop μ-loop

@@ -69,7 +69,7 @@ apply-coded-requires c κs =
     let k = c .before .before .before .before .before .before .before .before .before .before .before .before .before in
     let s = atStart k in
     let f = facts-at s in
-    ((f .in-grid .most-cols, f .in-grid .most-rows, range-at k, no-skip-at k, k .before .before .before .before .before .read-coded .kept .0, k .before .before .before .before .before .read-coded .kept .1 .0), (f .sized .picture, f .reference, f .sized .mv, f .sized .marks))
+    ((f .in-grid .most-cols, f .in-grid .most-rows, range-at k, no-skip-at k, k .before .before .before .before .before .read-coded .kept .0, k .before .before .before .before .before .read-coded .kept .1 .0), f .sized)
 
 returns : tie.Need-returns
 returns c =

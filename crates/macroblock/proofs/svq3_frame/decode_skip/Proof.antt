@@ -24,7 +24,7 @@ put-skip-requires : tie.Need-put-skip-requires
 put-skip-requires c κs = let s = c .before .before .before .before .before .before .before .before .before .before in let g = within-at s in (omega (arith, g .across, g .wide), omega (arith, g .down, g .high), omega (arith, laws.room (S s) (s .args .call) (now (s .args .bits)) (s .args .place) (now (s .args .transcript)) (s .args .fill) (s .pre .0)))
 
 apply-skip-requires : tie.Need-apply-skip-requires
-apply-skip-requires c κs = let s = c .before .before .before .before .before .before .before .before .before .before .before .before .before .before .before .before .before .before .before .before .before .before in let f = facts-at s in (within-at s, (f .sized .picture, f .reference, f .sized .mv, f .sized .marks))
+apply-skip-requires c κs = let s = c .before .before .before .before .before .before .before .before .before .before .before .before .before .before .before .before .before .before .before .before .before .before in let f = facts-at s in (within-at s, f .sized)
 
 returns : tie.Need-returns
 returns c = let s = c .before .before .before .before .before .before .before .before .before .before .before .before .before .before .before .before .before .before .before .before .before .before .before .before .before .before .before .before .before .before .before .before in let a = c .before .before .before .before .before .before .before .before .before .apply-skip in let w = c .before .before .before .before .before .before .before .before .before .before .before .before .before .before .before .before .before .before .before .before .before .put-skip in laws.skipped (S s) (s .args .call) (now (s .args .bits)) (s .args .place) (now (s .args .transcript)) (s .args .fill) (s .pre .0) (s .pre .1) (w .result) (a .last .0) (a .last .1 .0) (a .last .1 .1 .0) (a .last .1 .1 .1 .0) (a .last .1 .1 .1 .1 .0) (w .last .0) (w .ensures) (a .ensures .0) (a .ensures .1 .0) (a .ensures .1 .1 .0) (a .ensures .1 .1 .1 .0) (a .ensures .1 .1 .1 .1)

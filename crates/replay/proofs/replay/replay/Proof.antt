@@ -3,7 +3,7 @@ use mathlib.Core.Path.{refl, sym, _∙_}
 use denote.Ref.{now}
 use Rattle.state.specs.State.{State}
 use Rattle.macroblock.specs.Entry.{stateOf, stateNow}
-use Rattle.replay.proofs.Replays.{not-asked, right, in-grid, sized, reference, not-checked, recorded, all-applied}
+use Rattle.replay.proofs.Replays.{not-asked, right, in-grid, sized, not-checked, recorded, all-applied}
 use borrow.Author.Needs.{needs}
 use Rattle.replay.proofs.replay.replay.Statement.{statement}
 use Rattle.replay.proofs.replay.replay.Tie as tie
@@ -20,8 +20,7 @@ replay-records-requires c κs =
     let s = c .before .before .before .before .before .before .before .before .before .before .before .before .before .before .before .before .before .before .before .before in
     let e = sym (c .before .before .before .before .before .before .before .before .before .enum-told .given .1) ∙ c .before .before .before .before .before .before .before .before .before .before .before .ask-replay .ensures in
     let g = in-grid (S s) (now (s .args .bytes)) e in
-    let z = sized (S s) (now (s .args .bytes)) e in
-    ((g .most-cols, g .most-rows, recorded (S s) (now (s .args .bytes)) e (sym (c .before .before .before .before .before .before .n .given .1) ∙ c .before .before .before .before .before .before .before .before .check-records .ensures)), (z .picture, reference (S s) (now (s .args .bytes)) e, z .mv, z .marks))
+    ((g .most-cols, g .most-rows, recorded (S s) (now (s .args .bytes)) e (sym (c .before .before .before .before .before .before .n .given .1) ∙ c .before .before .before .before .before .before .before .before .check-records .ensures)), sized (S s) (now (s .args .bytes)) e)
 
 returns : tie.Need-returns
 returns c =

@@ -28,7 +28,7 @@ replay-record-requires : tie.Need-replay-record-requires Inv-loop μ-loop
 replay-record-requires c κs =
     let p = c .before .before .before .before .before .before .before .before .before .before .before .before .before .before .before .pre in
     let i = c .before .before .before .before .before .before .loop .inv in
-    ((p .0 .0, p .0 .1), (record { luma-right = i .0 ∙ p .1 .0 .luma-right; cb-right = i .1 ∙ p .1 .0 .cb-right; cr-right = i .2 ∙ p .1 .0 .cr-right }, p .1 .1, i .3 ∙ p .1 .2, i .4 ∙ p .1 .3))
+    ((p .0 .0, p .0 .1), record { picture = record { luma-right = i .0 ∙ p .1 .picture .luma-right; cb-right = i .1 ∙ p .1 .picture .cb-right; cr-right = i .2 ∙ p .1 .picture .cr-right }; mv = i .3 ∙ p .1 .mv; marks = i .4 ∙ p .1 .marks; reference = p .1 .reference })
 
 loop-less : tie.Need-loop-less Inv-loop μ-loop
 loop-less c =
