@@ -11,7 +11,7 @@ use lib.IntN.{ℤ, pos, _+ℤ_}
 use lib.ListN.{length, getD}
 use Rattle.picture.proofs.Laws.{painted-same}
 use Rattle.ints.specs.Z.{if_then_else_, floorZ, modZ}
-use Rattle.compensation.specs.Formula.{half, third, along, corner, third2d, formula}
+use Rattle.compensation.specs.Formula.{mean, third, along, corner, third2d, formula}
 use Rattle.compensation.specs.Sample.{tap, sampleAt, blockSample}
 use Rattle.state.specs.Questions.{sidesFit}
 use Rattle.compensation.specs.Block.{blockOut}
@@ -27,8 +27,8 @@ module _ {lo hi : ℕ} where
   either true p q = p
   either false p q = q
 
-  half-between : {a b : ℕ} → Between lo hi a → Between lo hi b → Between lo hi (half a b)
-  half-between p q = omega arith
+  mean-between : {a b : ℕ} → Between lo hi a → Between lo hi b → Between lo hi (mean a b)
+  mean-between p q = omega arith
 
   third-between : {a b : ℕ} → Between lo hi a → Between lo hi b → Between lo hi (third a b)
   third-between p q = omega arith
@@ -36,12 +36,12 @@ module _ {lo hi : ℕ} where
   corner-between : {a b c d : ℕ} → Between lo hi a → Between lo hi b → Between lo hi c → Between lo hi d → Between lo hi (corner a b c d)
   corner-between p q r s = omega arith
 
-  mean-between : {a b c d : ℕ} → Between lo hi a → Between lo hi b → Between lo hi c → Between lo hi d → Between lo hi ((a + b + c + d + 2) / 4)
-  mean-between p q r s = omega arith
+  four-between : {a b c d : ℕ} → Between lo hi a → Between lo hi b → Between lo hi c → Between lo hi d → Between lo hi ((a + b + c + d + 2) / 4)
+  four-between p q r s = omega arith
 
   along-between : (f : ℕ) {a b : ℕ} → Between lo hi a → Between lo hi b → Between lo hi (along f a b)
   unfolding along
-  along-between f p q = either (eqb f 0) p (either (eqb f 3) (half-between p q) (either (ltb f 3) (third-between p q) (third-between q p)))
+  along-between f p q = either (eqb f 0) p (either (eqb f 3) (mean-between p q) (either (ltb f 3) (third-between p q) (third-between q p)))
 
   third2d-between : (px py : ℕ) {a b c d : ℕ} → Between lo hi a → Between lo hi b → Between lo hi c → Between lo hi d → Between lo hi (third2d px py a b c d)
   unfolding third2d
@@ -56,9 +56,9 @@ module _ {lo hi : ℕ} where
   formula-between px py p q r s =
       either (eqb py 0) (along-between px p q)
       (either (eqb px 0) (along-between py p r)
-      (either (eqb px 3 && eqb py 3) (mean-between p q r s)
-      (either (eqb px 3) (along-between py (half-between p q) (half-between r s))
-      (either (eqb py 3) (along-between px (half-between p r) (half-between q s)) (third2d-between px py p q r s)))))
+      (either (eqb px 3 && eqb py 3) (four-between p q r s)
+      (either (eqb px 3) (along-between py (mean-between p q) (mean-between r s))
+      (either (eqb py 3) (along-between px (mean-between p r) (mean-between q s)) (third2d-between px py p q r s)))))
 
 -- the least and the greatest of four
 abbrev pub least : ℕ → ℕ → ℕ → ℕ → ℕ

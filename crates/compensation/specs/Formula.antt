@@ -5,9 +5,9 @@ use mathlib.Core.Bool.{_&&_}
 use lib.Dec.{eqb, ltb}
 use Rattle.ints.specs.Z.{if_then_else_}
 
--- halfway between two
-abbrev pub half : ℕ → ℕ → ℕ
-half a b = (a + b + 1) / 2
+-- halfway between two: their mean, rounded up
+abbrev pub mean : ℕ → ℕ → ℕ
+mean a b = (a + b + 1) / 2
 
 -- a third of the way from the near one to the far one
 abbrev pub third : ℕ → ℕ → ℕ
@@ -15,7 +15,7 @@ third near far = (4 * near + 2 * far + 3) / 6
 
 -- one phase: the first tap at 0, halfway at 3, else a third; near is the first tap for 1 and 2
 unfoldable pub along : ℕ → ℕ → ℕ → ℕ
-along f a b = if eqb f 0 then a else if eqb f 3 then half a b else if ltb f 3 then third a b else third b a
+along f a b = if eqb f 0 then a else if eqb f 3 then mean a b else if ltb f 3 then third a b else third b a
 
 -- two phases, none of them 0 or 3
 abbrev pub corner : ℕ → ℕ → ℕ → ℕ → ℕ
@@ -34,6 +34,6 @@ formula px py s00 s10 s01 s11 =
     if eqb py 0 then along px s00 s10
     else if eqb px 0 then along py s00 s01
     else if eqb px 3 && eqb py 3 then (s00 + s10 + s01 + s11 + 2) / 4
-    else if eqb px 3 then along py (half s00 s10) (half s01 s11)
-    else if eqb py 3 then along px (half s00 s01) (half s10 s11)
+    else if eqb px 3 then along py (mean s00 s10) (mean s01 s11)
+    else if eqb py 3 then along px (mean s00 s01) (mean s10 s11)
     else third2d px py s00 s10 s01 s11
