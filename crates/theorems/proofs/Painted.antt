@@ -16,7 +16,7 @@ use Rattle.ints.specs.Z.{if_then_else_, clip1Z}
 use Rattle.picture.specs.Painted.{within, inside, painted, Inside}
 use Rattle.picture.specs.Picture.{seen, copied}
 use Rattle.picture.proofs.Laws.{more, each-at, both-true, within-true, within-in, painted-length, painted-other}
-use Rattle.transform.specs.Added.{raised, added}
+use Rattle.transform.specs.Added.{reconstructed, added}
 use Rattle.theorems.specs.Outside.{Outside}
 
 -- ---- tests
@@ -137,12 +137,12 @@ copied-here s x y w h other l X Y wide fits a = painted-here s x y w h (seen oth
 -- a block of residuals
 module _ (s x y : ℕ) (residual : ℕ → ℕ → ℤ) (l : List ℕ) (X Y : ℕ) (wide : X < s) where
   pub added-here : Y * s + X < length l → Among x y 4 4 X Y → getD (added l s x y residual) (Y * s + X) 0 ≡ clip1Z (pos (getD l (Y * s + X) 0) +ℤ residual (Y - y) (X - x))
-  unfolding added raised
-  added-here fits a = painted-here s x y 4 4 (raised l s x y residual) l X Y 0 wide fits a ∙ rw (seen-here s x y l X Y (a .left) (a .top))
+  unfolding added reconstructed
+  added-here fits a = painted-here s x y 4 4 (reconstructed l s x y residual) l X Y 0 wide fits a ∙ rw (seen-here s x y l X Y (a .left) (a .top))
 
   pub added-elsewhere : (Among x y 4 4 X Y → ⊥) → getD (added l s x y residual) (Y * s + X) 0 ≡ getD l (Y * s + X) 0
   unfolding added
-  added-elsewhere o = painted-elsewhere s x y 4 4 (raised l s x y residual) l X Y 0 wide o
+  added-elsewhere o = painted-elsewhere s x y 4 4 (reconstructed l s x y residual) l X Y 0 wide o
 
 -- ---- of the numbers P 0, P 1, .. P N, only the step behind P m changes one
 pub once : (P F : ℕ → ℕ) (m N : ℕ) → m < N → ((n : ℕ) → n < N → n ≢ m → P (suc n) ≡ P n) → P (suc m) ≡ F (P m) → P N ≡ F (P 0)

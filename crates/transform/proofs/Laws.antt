@@ -18,8 +18,8 @@ use Rattle.picture.specs.InnerRows.{row, rows}
 use Rattle.picture.proofs.Laws.{more, row-more, row-values, rows-more, rows-other, painted-values}
 use Rattle.transform.specs.Residual.{placed, listed, scaled, sumOf, weighed, rowsOf, columnsOf, rounded, residual}
 use Rattle.transform.specs.InnerResidual.{noLevels}
-use Rattle.transform.specs.Added.{raised, added}
-use Rattle.transform.specs.InnerArrays.{turned, dot, short, shortened, finished, Short, raisedAt}
+use Rattle.transform.specs.Added.{reconstructed, added}
+use Rattle.transform.specs.InnerArrays.{turned, dot, short, shortened, finished, Short, reconstructedAt}
 
 -- ---- the matrix, by coefficients
 -- a negative one
@@ -56,10 +56,10 @@ clip-here z e = omega (arith, z-rules, min-z z (pos 255), clip1-z z, mag-z z)
 
 -- ---- a turn of the loop over the rows of a block: what it reads, no turn before it wrote
 pub row-added : (s x y j : ℕ) (plane₀ : List ℕ) (residual : List ℤ) {plane plane′ : List ℕ} → x + 4 ≤ s
-    → plane ≡ rows plane₀ s x y (raised plane₀ s x y (placed residual 0)) 4 j
-    → plane′ ≡ row plane ((y + j) * s + x) (raisedAt plane ((y + j) * s + x) residual (4 * j)) 4
-    → plane′ ≡ rows plane₀ s x y (raised plane₀ s x y (placed residual 0)) 4 (j + 1)
-unfolding raised raisedAt placed seen
+    → plane ≡ rows plane₀ s x y (reconstructed plane₀ s x y (placed residual 0)) 4 j
+    → plane′ ≡ row plane ((y + j) * s + x) (reconstructedAt plane ((y + j) * s + x) residual (4 * j)) 4
+    → plane′ ≡ rows plane₀ s x y (reconstructed plane₀ s x y (placed residual 0)) 4 (j + 1)
+unfolding reconstructed reconstructedAt placed seen
 row-added s x y j plane₀ residual {plane} h e f =
     rows-more plane₀ s x y _ 4 j e
     (f ∙ row-values plane ((y + j) * s + x) _ _ 4
@@ -105,12 +105,12 @@ placed-listed f r c h k =
 
 -- only the residuals of the block count
 pub added-values : (plane : List ℕ) (s x y : ℕ) (f g : ℕ → ℕ → ℤ) → ((r c : ℕ) → r < 4 → c < 4 → f r c ≡ g r c) → added plane s x y f ≡ added plane s x y g
-unfolding added raised
+unfolding added reconstructed
 added-values plane s x y f g e = painted-values s x y 4 4 _ _ plane (λ r c lr lc. ap (λ z. clip1Z (pos (seen plane s x y r c) +ℤ z)) (e r c lr lc))
 
 -- samples of 8 bits, to which held residuals are added: as if they were not held
 added-short : (plane : List ℕ) (s x y : ℕ) (f : ℕ → ℕ → ℤ) → ((n : ℕ) → getD plane n 0 < 256) → added plane s x y (shortened f) ≡ added plane s x y f
-unfolding added raised shortened seen
+unfolding added reconstructed shortened seen
 added-short plane s x y f h = painted-values s x y 4 4 _ _ plane (λ r c lr lc. clip-short _ (f r c) (h _))
 
 pub added-listed : (plane : List ℕ) (s x y : ℕ) (f : ℕ → ℕ → ℤ) {l : List ℤ} → l ≡ listed (shortened f) → ((n : ℕ) → getD plane n 0 < 256) → added plane s x y (placed l 0) ≡ added plane s x y f

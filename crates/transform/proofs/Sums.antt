@@ -1,4 +1,4 @@
--- The sums of the transform without saturation: their size, with the DC, and in two halves.
+-- The sums of the transform without saturation: their size, with the DC, and in two parts.
 -- Assumes nothing.
 use mathlib.Core.Path.{_≡_, refl, sym, ap, subst, _∙_}
 use mathlib.Core.Bool.{Bool, true, false, _&&_}
@@ -93,14 +93,14 @@ module _ (t dc : ℤ) (h : natAbs t ≤ 2000000000) (k : natAbs dc ≤ 800000) w
   pub with-dc : SFits w32 (t +ℤ pos 169 *ℤ dc)
   with-dc = abs-fits 2135200000 _ (omega (arith, abs-add t (pos 169 *ℤ dc), abs-times 169 dc)) (lit≤ tt)
 
-  pub with-half : SFits w32 (t +ℤ pos 169 *ℤ dc +ℤ pos 524288)
-  with-half = abs-fits 2135724288 _ (omega (arith, abs-add (t +ℤ pos 169 *ℤ dc) (pos 524288), abs-add t (pos 169 *ℤ dc), abs-times 169 dc)) (lit≤ tt)
+  pub with-rounding : SFits w32 (t +ℤ pos 169 *ℤ dc +ℤ pos 524288)
+  with-rounding = abs-fits 2135724288 _ (omega (arith, abs-add (t +ℤ pos 169 *ℤ dc) (pos 524288), abs-add t (pos 169 *ℤ dc), abs-times 169 dc)) (lit≤ tt)
 
   pub rounded-within : Within 4096 (rounded t dc)
   unfolding rounded
-  rounded-within = within-floor 4096 1048576 _ (within-fits w32 _ _ with-half tt) tt
+  rounded-within = within-floor 4096 1048576 _ (within-fits w32 _ _ with-rounding tt) tt
 
--- ---- in two halves: 13 (a ± c), and 17 b + 7 d or 7 b - 17 d
+-- ---- in two parts: 13 (a ± c), and 17 b + 7 d or 7 b - 17 d
 abbrev even : ℤ → ℤ → ℤ
 even a c = pos 13 *ℤ (a +ℤ c)
 
@@ -114,40 +114,40 @@ abbrev odd′ : ℤ → ℤ → ℤ
 odd′ b d = pos 7 *ℤ b -ℤ pos 17 *ℤ d
 
 module _ (a b c d : ℤ) where
-  halves-0 : even a c +ℤ odd b d ≡ sumOf 0 a b c d
-  halves-0 = omega (arith, z-rules, sum-z-0 a b c d, add-z (even a c) (odd b d), times-z 13 (a +ℤ c), add-z a c, add-z (pos 17 *ℤ b) (pos 7 *ℤ d), times-z 17 b, times-z 7 d)
+  parts-0 : even a c +ℤ odd b d ≡ sumOf 0 a b c d
+  parts-0 = omega (arith, z-rules, sum-z-0 a b c d, add-z (even a c) (odd b d), times-z 13 (a +ℤ c), add-z a c, add-z (pos 17 *ℤ b) (pos 7 *ℤ d), times-z 17 b, times-z 7 d)
 
-  halves-1 : even′ a c +ℤ odd′ b d ≡ sumOf 1 a b c d
-  halves-1 = omega (arith, z-rules, sum-z-1 a b c d, add-z (even′ a c) (odd′ b d), times-z 13 (a -ℤ c), diff-z a c, diff-z (pos 7 *ℤ b) (pos 17 *ℤ d), times-z 7 b, times-z 17 d)
+  parts-1 : even′ a c +ℤ odd′ b d ≡ sumOf 1 a b c d
+  parts-1 = omega (arith, z-rules, sum-z-1 a b c d, add-z (even′ a c) (odd′ b d), times-z 13 (a -ℤ c), diff-z a c, diff-z (pos 7 *ℤ b) (pos 17 *ℤ d), times-z 7 b, times-z 17 d)
 
-  halves-2 : even′ a c -ℤ odd′ b d ≡ sumOf 2 a b c d
-  halves-2 = omega (arith, z-rules, sum-z-2 a b c d, diff-z (even′ a c) (odd′ b d), times-z 13 (a -ℤ c), diff-z a c, diff-z (pos 7 *ℤ b) (pos 17 *ℤ d), times-z 7 b, times-z 17 d)
+  parts-2 : even′ a c -ℤ odd′ b d ≡ sumOf 2 a b c d
+  parts-2 = omega (arith, z-rules, sum-z-2 a b c d, diff-z (even′ a c) (odd′ b d), times-z 13 (a -ℤ c), diff-z a c, diff-z (pos 7 *ℤ b) (pos 17 *ℤ d), times-z 7 b, times-z 17 d)
 
-  halves-3 : even a c -ℤ odd b d ≡ sumOf 3 a b c d
-  halves-3 = omega (arith, z-rules, sum-z-3 a b c d, diff-z (even a c) (odd b d), times-z 13 (a +ℤ c), add-z a c, add-z (pos 17 *ℤ b) (pos 7 *ℤ d), times-z 17 b, times-z 7 d)
+  parts-3 : even a c -ℤ odd b d ≡ sumOf 3 a b c d
+  parts-3 = omega (arith, z-rules, sum-z-3 a b c d, diff-z (even a c) (odd b d), times-z 13 (a +ℤ c), add-z a c, add-z (pos 17 *ℤ b) (pos 7 *ℤ d), times-z 17 b, times-z 7 d)
 
--- what is made of the halves of sum k fits 32 bits, and read back it is that sum
-abbrev pub halves : ℕ → ℤ → ℤ → ℤ → ℤ → ℤ
-halves zero a b c d = even a c +ℤ odd b d
-halves (suc zero) a b c d = even′ a c +ℤ odd′ b d
-halves (suc (suc zero)) a b c d = even′ a c -ℤ odd′ b d
-halves (suc (suc (suc k))) a b c d = even a c -ℤ odd b d
+-- what is made of the parts of sum k fits 32 bits, and read back it is that sum
+abbrev pub parts : ℕ → ℤ → ℤ → ℤ → ℤ → ℤ
+parts zero a b c d = even a c +ℤ odd b d
+parts (suc zero) a b c d = even′ a c +ℤ odd′ b d
+parts (suc (suc zero)) a b c d = even′ a c -ℤ odd′ b d
+parts (suc (suc (suc k))) a b c d = even a c -ℤ odd b d
 
-halves-sum : (k : ℕ) (a b c d : ℤ) → halves k a b c d ≡ sumOf k a b c d
+parts-sum : (k : ℕ) (a b c d : ℤ) → parts k a b c d ≡ sumOf k a b c d
 unfolding sumOf
-halves-sum zero a b c d = halves-0 a b c d
-halves-sum (suc zero) a b c d = halves-1 a b c d
-halves-sum (suc (suc zero)) a b c d = halves-2 a b c d
-halves-sum (suc (suc (suc k))) a b c d = halves-3 a b c d
+parts-sum zero a b c d = parts-0 a b c d
+parts-sum (suc zero) a b c d = parts-1 a b c d
+parts-sum (suc (suc zero)) a b c d = parts-2 a b c d
+parts-sum (suc (suc (suc k))) a b c d = parts-3 a b c d
 
-pub halves-fit : (k : ℕ) {a b c d z : ℤ} → Small 40000000 a b c d → z ≡ halves k a b c d → SFits w32 z
-halves-fit k {a} {b} {c} {d} small e = subst (SFits w32) (sym (e ∙ halves-sum k a b c d)) (sum-fits k 40000000 (lit≤ tt) small)
+pub parts-fit : (k : ℕ) {a b c d z : ℤ} → Small 40000000 a b c d → z ≡ parts k a b c d → SFits w32 z
+parts-fit k {a} {b} {c} {d} small e = subst (SFits w32) (sym (e ∙ parts-sum k a b c d)) (sum-fits k 40000000 (lit≤ tt) small)
 
-halves-read : (k : ℕ) (a b c d : ℤ) {z : ℤ} → SFits w32 z → z ≡ halves k a b c d → read w32 z ≡ sumOf k a b c d
-halves-read k a b c d f e = toZ-ofZ f ∙ e ∙ halves-sum k a b c d
+parts-read : (k : ℕ) (a b c d : ℤ) {z : ℤ} → SFits w32 z → z ≡ parts k a b c d → read w32 z ≡ sumOf k a b c d
+parts-read k a b c d f e = toZ-ofZ f ∙ e ∙ parts-sum k a b c d
 
 pub four-sums : (a b c d : ℤ) {w x y z : ℤ} → SFits w32 w → SFits w32 x → SFits w32 y → SFits w32 z
-    → w ≡ halves 0 a b c d → x ≡ halves 1 a b c d → y ≡ halves 2 a b c d → z ≡ halves 3 a b c d
+    → w ≡ parts 0 a b c d → x ≡ parts 1 a b c d → y ≡ parts 2 a b c d → z ≡ parts 3 a b c d
     → read w32 w ∷ read w32 x ∷ read w32 y ∷ read w32 z ∷ [] ≡ sumsOf a b c d
 unfolding sumsOf
-four-sums a b c d f g h k p q r s = λ i. halves-read 0 a b c d f p i ∷ halves-read 1 a b c d g q i ∷ halves-read 2 a b c d h r i ∷ halves-read 3 a b c d k s i ∷ []
+four-sums a b c d f g h k p q r s = λ i. parts-read 0 a b c d f p i ∷ parts-read 1 a b c d g q i ∷ parts-read 2 a b c d h r i ∷ parts-read 3 a b c d k s i ∷ []

@@ -7,13 +7,13 @@ use lib.ListN.{getD}
 use Rattle.ints.specs.Z.{satZ, towardZero}
 
 -- half of a sum, toward zero, saturated
-unfoldable pub halved : ℤ → ℤ
-halved z = satZ (towardZero z 2)
+unfoldable pub satHalf : ℤ → ℤ
+satHalf z = satZ (towardZero z 2)
 
 -- the four sums of `chroma_dc_secondary_transform`
 unfoldable pub secondary : ℤ → ℤ → ℤ → ℤ → List ℤ
 secondary a b c d =
-    halved (a +ℤ b +ℤ c +ℤ d) ∷ halved (a -ℤ b +ℤ c -ℤ d) ∷ halved (a +ℤ b -ℤ c -ℤ d) ∷ halved (a -ℤ b -ℤ c +ℤ d) ∷ []
+    satHalf (a +ℤ b +ℤ c +ℤ d) ∷ satHalf (a -ℤ b +ℤ c -ℤ d) ∷ satHalf (a +ℤ b -ℤ c -ℤ d) ∷ satHalf (a -ℤ b -ℤ c +ℤ d) ∷ []
 
 -- the level at place n times the entry, saturated
 unfoldable pub scaledAt : ℕ → List ℤ → ℕ → ℤ

@@ -37,5 +37,5 @@ pub record Short (l : List ℤ) : Type 0 where
   pub small : (n : ℕ) → mag (getD l n (pos 0)) < 4096
 
 -- the sample at `at + c` and the residual at `from + c`, held in 0 to 255
-unfoldable pub raisedAt : List ℕ → ℕ → List ℤ → ℕ → ℕ → ℕ
-raisedAt plane at residual from c = clip1Z (pos (getD plane (at + c) 0) +ℤ getD residual (from + c) (pos 0))
+unfoldable pub reconstructedAt : List ℕ → ℕ → List ℤ → ℕ → ℕ → ℕ
+reconstructedAt plane at residual from c = clip1Z (pos (getD plane (at + c) 0) +ℤ getD residual (from + c) (pos 0))

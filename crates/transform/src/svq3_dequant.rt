@@ -5,7 +5,7 @@ ghost use lib.IntN.{_+ℤ_, _-ℤ_};
 ghost use lib.ListN.{length};
 ghost use Rattle.transform.specs.Tables.{dequantCoeff, chromaQuantiserIndex, chromaCoeff};
 ghost use Rattle.transform.specs.Residual.{placed, listed, scaled, rowsOf, rounded, residual};
-ghost use Rattle.transform.specs.ChromaDc.{halved, secondary, scaledAt, chromaDc};
+ghost use Rattle.transform.specs.ChromaDc.{satHalf, secondary, scaledAt, chromaDc};
 ghost use Rattle.transform.specs.InnerArrays.{turned, dot, dotRow, short, shortened, finished};
 
 const DEQUANT_COEFF_TABLE: [u32; 32] = [
@@ -207,32 +207,32 @@ pub fn dequantize_transform_luma_block_with_dc(
 }
 
 fn halve(v: i64) -> i32
-    ensures { λ r. ⌜ r ≡ halved v ⌝ }
+    ensures { λ r. ⌜ r ≡ satHalf v ⌝ }
 {
     ints::sat_i32(v / 2)
 }
 
 // The four sums, by the place of their block.
 fn top_left(a: i32, b: i32, c: i32, d: i32) -> i32
-    ensures { λ r. ⌜ r ≡ halved (a +ℤ b +ℤ c +ℤ d) ⌝ }
+    ensures { λ r. ⌜ r ≡ satHalf (a +ℤ b +ℤ c +ℤ d) ⌝ }
 {
     halve((a as i64) + (b as i64) + (c as i64) + (d as i64))
 }
 
 fn top_right(a: i32, b: i32, c: i32, d: i32) -> i32
-    ensures { λ r. ⌜ r ≡ halved (a -ℤ b +ℤ c -ℤ d) ⌝ }
+    ensures { λ r. ⌜ r ≡ satHalf (a -ℤ b +ℤ c -ℤ d) ⌝ }
 {
     halve((a as i64) - (b as i64) + (c as i64) - (d as i64))
 }
 
 fn bottom_left(a: i32, b: i32, c: i32, d: i32) -> i32
-    ensures { λ r. ⌜ r ≡ halved (a +ℤ b -ℤ c -ℤ d) ⌝ }
+    ensures { λ r. ⌜ r ≡ satHalf (a +ℤ b -ℤ c -ℤ d) ⌝ }
 {
     halve((a as i64) + (b as i64) - (c as i64) - (d as i64))
 }
 
 fn bottom_right(a: i32, b: i32, c: i32, d: i32) -> i32
-    ensures { λ r. ⌜ r ≡ halved (a -ℤ b -ℤ c +ℤ d) ⌝ }
+    ensures { λ r. ⌜ r ≡ satHalf (a -ℤ b -ℤ c +ℤ d) ⌝ }
 {
     halve((a as i64) - (b as i64) - (c as i64) + (d as i64))
 }

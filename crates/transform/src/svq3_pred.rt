@@ -9,7 +9,7 @@ ghost use Rattle.picture.specs.Painted.{Inside};
 ghost use Rattle.picture.specs.InnerRows.{row};
 ghost use Rattle.transform.specs.Residual.{placed};
 ghost use Rattle.transform.specs.Added.{added};
-ghost use Rattle.transform.specs.InnerArrays.{Short, raisedAt};
+ghost use Rattle.transform.specs.InnerArrays.{Short, reconstructedAt};
 
 // The lesser of a number and 255.
 fn at_most_255(v: i16) -> i16
@@ -30,7 +30,7 @@ fn reconstruct_sample(pred: u8, residual: i16) -> u8
 // Four residuals from `from` on, added to the samples from `at` on.
 fn add_row(plane: &mut [u8], at: usize, residual: &[i16; 16], from: usize)
     requires { ⌜ (at + 4 ≤ length (now plane)) × (from + 4 ≤ 16) × Short (now residual) ⌝ }
-    ensures { λ _. ⌜ now (plane .exit) ≡ row (now (plane .entry)) at (raisedAt (now (plane .entry)) at (now (residual .entry)) from) 4 ⌝ }
+    ensures { λ _. ⌜ now (plane .exit) ≡ row (now (plane .entry)) at (reconstructedAt (now (plane .entry)) at (now (residual .entry)) from) 4 ⌝ }
 {
     let mut c = 0;
     while c < 4 {

@@ -9,14 +9,14 @@ use mir.Facts.{toZ-ofZ}
 use Rattle.ints.proofs.Fits.{signed, read, fits, within-i16, within-mag, shr-floor, Within}
 use Rattle.ints.proofs.Same.{reads}
 use Rattle.transform.specs.Residual.{rounded}
-use Rattle.transform.proofs.Sums.{with-dc, with-half, rounded-within}
+use Rattle.transform.proofs.Sums.{with-dc, with-rounding, rounded-within}
 use Rattle.transform.proofs.exact.round.Statement.{statement}
 use Rattle.transform.proofs.exact.round.Tie as tie
 
 abbrev r : ℤ → ℤ
 r z = read w32 z
 
--- the sum, with the DC, with the half: as the machine has them, each fits
+-- the sum, with the DC, with what rounds it: as the machine has them, each fits
 dc-is : (c : tie.Start) → r (c .args .t) +ℤ r (pos 169 *ℤ r (c .args .dc)) ≡ c .args .t +ℤ pos 169 *ℤ c .args .dc
 dc-is c =
     let t = toZ-ofZ (c .fits .t) in
@@ -27,18 +27,18 @@ dc-is c =
 fits-1 : (c : tie.Start) → SFits w32 (r (c .args .t) +ℤ r (pos 169 *ℤ r (c .args .dc)))
 fits-1 c = subst (SFits w32) (sym (dc-is c)) (with-dc (c .args .t) (c .args .dc) (c .pre .0) (c .pre .1))
 
-half-is : (c : tie.Start) → r (r (c .args .t) +ℤ r (pos 169 *ℤ r (c .args .dc))) +ℤ pos 524288 ≡ c .args .t +ℤ pos 169 *ℤ c .args .dc +ℤ pos 524288
-half-is c = ap (λ z. z +ℤ pos 524288) (toZ-ofZ (fits-1 c) ∙ dc-is c)
+rounding-is : (c : tie.Start) → r (r (c .args .t) +ℤ r (pos 169 *ℤ r (c .args .dc))) +ℤ pos 524288 ≡ c .args .t +ℤ pos 169 *ℤ c .args .dc +ℤ pos 524288
+rounding-is c = ap (λ z. z +ℤ pos 524288) (toZ-ofZ (fits-1 c) ∙ dc-is c)
 
 fits-2 : (c : tie.Start) → SFits w32 (r (r (c .args .t) +ℤ r (pos 169 *ℤ r (c .args .dc))) +ℤ pos 524288)
-fits-2 c = subst (SFits w32) (sym (half-is c)) (with-half (c .args .t) (c .args .dc) (c .pre .0) (c .pre .1))
+fits-2 c = subst (SFits w32) (sym (rounding-is c)) (with-rounding (c .args .t) (c .args .dc) (c .pre .0) (c .pre .1))
 
 small : (c : tie.Start) → Within 4096 (rounded (c .args .t) (c .args .dc))
 small c = rounded-within (c .args .t) (c .args .dc) (c .pre .0) (c .pre .1)
 
 shifted : (c : tie.Start) → shrZ (r (r (r (c .args .t) +ℤ r (pos 169 *ℤ r (c .args .dc))) +ℤ pos 524288)) 1048576 ≡ rounded (c .args .t) (c .args .dc)
 unfolding rounded
-shifted c = ap (λ z. shrZ z 1048576) (toZ-ofZ (fits-2 c) ∙ half-is c) ∙ shr-floor _ 1048576
+shifted c = ap (λ z. shrZ z 1048576) (toZ-ofZ (fits-2 c) ∙ rounding-is c) ∙ shr-floor _ 1048576
 
 result : (c : tie.Start) → r (shrZ (r (r (r (c .args .t) +ℤ r (pos 169 *ℤ r (c .args .dc))) +ℤ pos 524288)) 1048576) ≡ rounded (c .args .t) (c .args .dc)
 result c = ap r (shifted c) ∙ toZ-ofZ (fits (within-mag 4096 _ _ (small c .within) tt))

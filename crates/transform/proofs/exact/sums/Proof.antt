@@ -1,7 +1,7 @@
--- Each step fits 32 bits, and the halves make the sums.
+-- Each step fits 32 bits, and the parts make the sums.
 use Rattle.ints.proofs.Fits.{signed}
 use Rattle.ints.proofs.Same.{reads}
-use Rattle.transform.proofs.Sums.{halves-fit, four-sums}
+use Rattle.transform.proofs.Sums.{parts-fit, four-sums}
 use Rattle.transform.proofs.exact.sums.Statement.{statement}
 use Rattle.transform.proofs.exact.sums.Tie as tie
 
@@ -55,26 +55,26 @@ sub-h c =
     let record { first = p; second = q; third = r; fourth = s } = c .pre in
     search signed depth 20
 
--- each sum, as the machine has it, is made of two halves
+-- each sum, as the machine has it, is made of two parts
 add-t9 : tie.Need-add-t9
 add-t9 c =
     let record { first = p; second = q; third = r; fourth = s } = c .pre in
-    halves-fit 0 (c .pre) (search reads fits 20000 depth 30)
+    parts-fit 0 (c .pre) (search reads fits 20000 depth 30)
 
 add-t10 : tie.Need-add-t10
 add-t10 c =
     let record { first = p; second = q; third = r; fourth = s } = c .pre in
-    halves-fit 1 (c .pre) (search reads fits 20000 depth 30)
+    parts-fit 1 (c .pre) (search reads fits 20000 depth 30)
 
 sub-t11 : tie.Need-sub-t11
 sub-t11 c =
     let record { first = p; second = q; third = r; fourth = s } = c .pre in
-    halves-fit 2 (c .pre) (search reads fits 20000 depth 30)
+    parts-fit 2 (c .pre) (search reads fits 20000 depth 30)
 
 sub-t12 : tie.Need-sub-t12
 sub-t12 c =
     let record { first = p; second = q; third = r; fourth = s } = c .pre in
-    halves-fit 3 (c .pre) (search reads fits 20000 depth 30)
+    parts-fit 3 (c .pre) (search reads fits 20000 depth 30)
 
 returns : tie.Need-returns
 returns c =

@@ -5,7 +5,7 @@ use mir.Syntax.{w32}
 use lib.IntN.{_+ℤ_, _-ℤ_}
 use Rattle.ints.proofs.Fits.{back, via}
 use Rattle.ints.proofs.Same.{reads}
-use Rattle.transform.specs.ChromaDc.{halved, secondary}
+use Rattle.transform.specs.ChromaDc.{satHalf, secondary}
 use Rattle.transform.proofs.svq3_dequant.chroma_dc_secondary_transform.Statement.{statement}
 use Rattle.transform.proofs.svq3_dequant.chroma_dc_secondary_transform.Tie as tie
 
@@ -18,10 +18,10 @@ returns c =
     let z = c1 .before .args in
     let record { a = a; b = b; c = c′; d = d } = c1 .before .fits in
     λ i.
-    back w32 (c1 .top-left .ok) (via halved {y = z .a +ℤ z .b +ℤ z .c +ℤ z .d} (c1 .top-left .ensures) (search reads fits 20000 depth 30)) i
-    ∷ back w32 (c2 .top-right .ok) (via halved {y = z .a -ℤ z .b +ℤ z .c -ℤ z .d} (c2 .top-right .ensures) (search reads fits 20000 depth 30)) i
-    ∷ back w32 (c3 .bottom-left .ok) (via halved {y = z .a +ℤ z .b -ℤ z .c -ℤ z .d} (c3 .bottom-left .ensures) (search reads fits 20000 depth 30)) i
-    ∷ back w32 (c .bottom-right .ok) (via halved {y = z .a -ℤ z .b -ℤ z .c +ℤ z .d} (c .bottom-right .ensures) (search reads fits 20000 depth 30)) i
+    back w32 (c1 .top-left .ok) (via satHalf {y = z .a +ℤ z .b +ℤ z .c +ℤ z .d} (c1 .top-left .ensures) (search reads fits 20000 depth 30)) i
+    ∷ back w32 (c2 .top-right .ok) (via satHalf {y = z .a -ℤ z .b +ℤ z .c -ℤ z .d} (c2 .top-right .ensures) (search reads fits 20000 depth 30)) i
+    ∷ back w32 (c3 .bottom-left .ok) (via satHalf {y = z .a +ℤ z .b -ℤ z .c -ℤ z .d} (c3 .bottom-left .ensures) (search reads fits 20000 depth 30)) i
+    ∷ back w32 (c .bottom-right .ok) (via satHalf {y = z .a -ℤ z .b -ℤ z .c +ℤ z .d} (c .bottom-right .ensures) (search reads fits 20000 depth 30)) i
     ∷ []
 
 pub chroma-dc-secondary-transform-spec : {M : Type 1} → statement M

@@ -10,12 +10,12 @@ use Rattle.ints.specs.Z.{clip1Z}
 use Rattle.ints.proofs.Fits.{read, back}
 use Rattle.picture.specs.InnerRows.{row}
 use Rattle.picture.proofs.Laws.{row-more, row-other}
-use Rattle.transform.specs.InnerArrays.{raisedAt}
+use Rattle.transform.specs.InnerArrays.{reconstructedAt}
 use Rattle.transform.proofs.svq3_pred.add_row.Statement.{statement}
 use Rattle.transform.proofs.svq3_pred.add_row.Tie as tie
 
 abbrev Inv-loop : tie.InvT-loop
-Inv-loop plane₀ at residual from c₀ plane c = (c ≤ 4) × (length plane ≡ length plane₀) × (plane ≡ row plane₀ at (raisedAt plane₀ at residual from) c)
+Inv-loop plane₀ at residual from c₀ plane c = (c ≤ 4) × (length plane ≡ length plane₀) × (plane ≡ row plane₀ at (reconstructedAt plane₀ at residual from) c)
 
 abbrev μ-loop : tie.MeasureT-loop
 μ-loop plane₀ at residual from c₀ plane c = 4 - c
@@ -34,7 +34,7 @@ reconstruct-sample-requires c κs =
     subst (λ (z : ℤ). mag z < 4096) (sym (taken c)) (s .pre .2 .small (s .args .from + c .before .before .before .loop .c))
 
 loop-again : tie.Need-loop-again Inv-loop μ-loop
-unfolding raisedAt
+unfolding reconstructedAt
 loop-again c =
     let a = c .before .before .before .before .before .before .args in
     let l = c .before .before .before .before .loop in

@@ -7,13 +7,13 @@ use lib.ListN.{length}
 use Rattle.picture.specs.InnerRows.{rows}
 use Rattle.picture.proofs.Laws.{rows-painted, Row, inside-row}
 use Rattle.transform.specs.Residual.{placed}
-use Rattle.transform.specs.Added.{raised, added}
+use Rattle.transform.specs.Added.{reconstructed, added}
 use Rattle.transform.proofs.Laws.{row-added}
 use Rattle.transform.proofs.svq3_pred.reconstruct_4x4.Statement.{statement}
 use Rattle.transform.proofs.svq3_pred.reconstruct_4x4.Tie as tie
 
 abbrev Inv-loop : tie.InvT-loop
-Inv-loop plane₀ stride x y residual j₀ plane j = (j ≤ 4) × (length plane ≡ length plane₀) × (plane ≡ rows plane₀ stride x y (raised plane₀ stride x y (placed residual 0)) 4 j)
+Inv-loop plane₀ stride x y residual j₀ plane j = (j ≤ 4) × (length plane ≡ length plane₀) × (plane ≡ rows plane₀ stride x y (reconstructed plane₀ stride x y (placed residual 0)) 4 j)
 
 abbrev μ-loop : tie.MeasureT-loop
 μ-loop plane₀ stride x y residual j₀ plane j = 4 - j
