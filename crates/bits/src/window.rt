@@ -7,10 +7,10 @@ ghost use lib.ListN.{length, drop};
 ghost use Rattle.bits.specs.Bits.{bitList};
 ghost use Rattle.bits.specs.InnerWindow.{Shows};
 
-// The `left` highest bits of the word are the bits from a place on.
+// The `known` highest bits of the word are the bits from a place on.
 pub struct Window {
     pub word: u64,
-    pub left: u32,
+    pub known: u32,
 }
 
 fn wide(x: u8) -> u64
@@ -37,26 +37,26 @@ fn word_at(bits: &[u8], i: usize) -> u64
 
 // The window of the bits at a place, empty where no eight bytes are left.
 pub fn window_at(bits: &[u8], at: usize) -> Window
-    ensures { λ r. ⌜ Shows (r .word) (r .left) (drop at (bitList (now (bits .entry)))) ⌝ }
+    ensures { λ r. ⌜ Shows (r .word) (r .known) (drop at (bitList (now (bits .entry)))) ⌝ }
 {
     let i = at / 8;
     if i + 8 <= bits.len() {
         let k = (at % 8) as u32;
         return Window {
             word: word_at(bits, i) << k,
-            left: 64 - k,
+            known: 64 - k,
         };
     }
-    Window { word: 0, left: 0 }
+    Window { word: 0, known: 0 }
 }
 
 // The window without its first n bits.
 pub fn pass(window: Window, n: u32) -> Window
-    requires { ⌜ (n ≤ window .left) × (n < 64) ⌝ }
-    ensures { λ r. ⌜ ((s : List Bool) → Shows (window .word) (window .left) s → Shows (r .word) (r .left) (drop n s)) ⌝ }
+    requires { ⌜ (n ≤ window .known) × (n < 64) ⌝ }
+    ensures { λ r. ⌜ ((s : List Bool) → Shows (window .word) (window .known) s → Shows (r .word) (r .known) (drop n s)) ⌝ }
 {
     Window {
         word: window.word << n,
-        left: window.left - n,
+        known: window.known - n,
     }
 }

@@ -131,22 +131,22 @@ level-less q h = toZ-ofZ (less-fits q h) ∙ ap (λ (z : ℤ). z -ℤ pos 4) (to
 
 -- ---- steps
 module _ (book : ResidualBook) (bits : List Bool) (p : ℕ) where
-  pub level-stepped : (l : ℤ) (r q word left : ℕ) → Level l r q ≡ stepAnswer p (levelRun book (drop p bits)) → Shows word left (drop q bits) → Stepped book bits p (Level l r q) word left
-  level-stepped l r q word left e shown = record { says = e; shows = λ x y z g. let t : q ≡ z = cc in subst (λ (n : ℕ). Shows word left (drop n bits)) t shown }
+  pub level-stepped : (l : ℤ) (r q word known : ℕ) → Level l r q ≡ stepAnswer p (levelRun book (drop p bits)) → Shows word known (drop q bits) → Stepped book bits p (Level l r q) word known
+  level-stepped l r q word known e shown = record { says = e; shows = λ x y z g. let t : q ≡ z = cc in subst (λ (n : ℕ). Shows word known (drop n bits)) t shown }
 
-  pub end-stepped : (q word left : ℕ) → End q ≡ stepAnswer p (levelRun book (drop p bits)) → Stepped book bits p (End q) word left
-  end-stepped q word left e = record { says = e; shows = λ x y z g. absurd (let n : _≡_ {A = ℕ} 0 1 = cc in omega arith) }
+  pub end-stepped : (q word known : ℕ) → End q ≡ stepAnswer p (levelRun book (drop p bits)) → Stepped book bits p (End q) word known
+  end-stepped q word known e = record { says = e; shows = λ x y z g. absurd (let n : _≡_ {A = ℕ} 0 1 = cc in omega arith) }
 
-  pub refused-stepped : (r : Refusal) (word left : ℕ) → Refused r ≡ stepAnswer p (levelRun book (drop p bits)) → Stepped book bits p (Refused r) word left
-  refused-stepped r word left e = record { says = e; shows = λ x y z g. absurd (let n : _≡_ {A = ℕ} 0 1 = cc in omega arith) }
+  pub refused-stepped : (r : Refusal) (word known : ℕ) → Refused r ≡ stepAnswer p (levelRun book (drop p bits)) → Stepped book bits p (Refused r) word known
+  refused-stepped r word known e = record { says = e; shows = λ x y z g. absurd (let n : _≡_ {A = ℕ} 0 1 = cc in omega arith) }
 
   -- ---- a code that the window shows
-  module _ (word left : ℕ) (shown : Shows word left (drop p bits)) where
-    pub one-found : 0 < left → 2 ^ 63 ≤ word → word < 2 ^ 64 → levelRun book (drop p bits) ≡ got said.End 1
+  module _ (word known : ℕ) (shown : Shows word known (drop p bits)) where
+    pub one-found : 0 < known → 2 ^ 63 ≤ word → word < 2 ^ 64 → levelRun book (drop p bits) ≡ got said.End 1
     unfolding levelRun code codeFrom resolve
-    one-found h l u = let b = starts-one word left (drop p bits) h l u shown in ap (levelRun book) (b .1)
+    one-found h l u = let b = starts-one word known (drop p bits) h l u shown in ap (levelRun book) (b .1)
 
-    module _ (e : ℕ) (low : word < 2 ^ 63) (is : e ≡ getD (entries book) (word / 2 ^ 57) 0) (fits : entrySize e ≤ left) where
+    module _ (e : ℕ) (low : word < 2 ^ 63) (is : e ≡ getD (entries book) (word / 2 ^ 57) 0) (fits : entrySize e ≤ known) where
       found : Said book e (word / 2 ^ 57)
       found = entry-says book (word / 2 ^ 57) e (omega arith) is (omega (arith, shown .few))
 
@@ -157,7 +157,7 @@ module _ (book : ResidualBook) (bits : List Bool) (p : ℕ) where
       size-some = found .some
 
       pub level-found : levelRun book (drop p bits) ≡ got (said.Pair (entryLevel e) (entryRun e)) (entrySize e)
-      level-found = let b = starts-seven word left (entrySize e) (drop p bits) (found .few) fits shown in ap (levelRun book) (b .1) ∙ found .says (b .0)
+      level-found = let b = starts-seven word known (entrySize e) (drop p bits) (found .few) fits shown in ap (levelRun book) (b .1) ∙ found .says (b .0)
 
       pub entry-stepped : (z : ℤ) (after rest : ℕ) → z ≡ entryLevel e → Shows after rest (drop (entrySize e) (drop p bits)) → Stepped book bits p (Level z (entryRun e) (p + entrySize e)) after rest
       entry-stepped z after rest f behind =

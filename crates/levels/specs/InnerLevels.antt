@@ -25,9 +25,9 @@ stepAnswer at (got (said.Pair level run) n) = step.Level level run (at + n)
 stepAnswer at (refused r) = step.Refused r
 
 -- a step at a place of the bits s, and a word that shows the bits behind its code, where that is a level
-pub record Stepped (book : ResidualBook) (s : List Bool) (at : ℕ) (answer : Step) (word left : ℕ) : Type 0 where
+pub record Stepped (book : ResidualBook) (s : List Bool) (at : ℕ) (answer : Step) (word known : ℕ) : Type 0 where
   pub says : answer ≡ stepAnswer at (levelRun book (drop at s))
-  pub shows : (level : ℤ) (run next : ℕ) → answer ≡ step.Level level run next → Shows word left (drop next s)
+  pub shows : (level : ℤ) (run next : ℕ) → answer ≡ step.Level level run next → Shows word known (drop next s)
 
 abbrev pub listAnswer : ℕ → Got (List ℤ) → ListAnswer
 listAnswer at (got bs n) = End (at + n)

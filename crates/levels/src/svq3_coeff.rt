@@ -168,7 +168,7 @@ pub struct Taken {
 // The next code of a list, read from the bytes, with a window taken anew behind it.
 fn read_next(bits: &[u8], at: usize, book: ResidualBook) -> Taken
     requires { ⌜ length (now bits) < 2 ^ 61 ⌝ }
-    ensures { λ r. ⌜ Stepped book (bitList (now (bits .entry))) at (r .step) (r .window .word) (r .window .left) ⌝ }
+    ensures { λ r. ⌜ Stepped book (bitList (now (bits .entry))) at (r .step) (r .window .word) (r .window .known) ⌝ }
 {
     match read_level(bits, at, book) {
         Step::Level(level, run, next) => Taken {
@@ -177,26 +177,26 @@ fn read_next(bits: &[u8], at: usize, book: ResidualBook) -> Taken
         },
         Step::End(next) => Taken {
             step: Step::End(next),
-            window: Window { word: 0, left: 0 },
+            window: Window { word: 0, known: 0 },
         },
         Step::Refused(r) => Taken {
             step: Step::Refused(r),
-            window: Window { word: 0, left: 0 },
+            window: Window { word: 0, known: 0 },
         },
     }
 }
 
 // The next code of a list: taken from the window where all of its bits are there and are at most seven, else read from the bytes.
 fn next_level(bits: &[u8], at: usize, book: ResidualBook, window: Window) -> Taken
-    requires { ⌜ (length (now bits) < 2 ^ 61) × Shows (window .word) (window .left) (drop at (bitList (now bits))) ⌝ }
-    ensures { λ r. ⌜ Stepped book (bitList (now (bits .entry))) at (r .step) (r .window .word) (r .window .left) ⌝ }
+    requires { ⌜ (length (now bits) < 2 ^ 61) × Shows (window .word) (window .known) (drop at (bitList (now bits))) ⌝ }
+    ensures { λ r. ⌜ Stepped book (bitList (now (bits .entry))) at (r .step) (r .window .word) (r .window .known) ⌝ }
 {
     let word = window.word;
-    let left = window.left;
+    let known = window.known;
     if word < 0x8000_0000_0000_0000 {
         let entry = entry_of(book, word >> 57);
         let size = entry % 256;
-        if size <= left {
+        if size <= known {
             let next = at + size as usize;
             return Taken {
                 step: Step::Level(entry_level(entry), entry / 256 % 256, next),
@@ -204,7 +204,7 @@ fn next_level(bits: &[u8], at: usize, book: ResidualBook, window: Window) -> Tak
             };
         }
     } else {
-        if 0 < left {
+        if 0 < known {
             let next = at + 1;
             return Taken {
                 step: Step::End(next),
@@ -256,9 +256,9 @@ fn decode_list(
     let mut p = at;
     let first = window_at(bits, at);
     let mut word = first.word;
-    let mut left = first.left;
+    let mut known = first.known;
     loop {
-        let taken = next_level(bits, p, book, Window { word, left });
+        let taken = next_level(bits, p, book, Window { word, known });
         let step = taken.step;
         match step {
             Step::Level(level, run, next) => {
@@ -272,7 +272,7 @@ fn decode_list(
                 position = reached + 1;
                 p = next;
                 word = taken.window.word;
-                left = taken.window.left;
+                known = taken.window.known;
             }
             Step::End(next) => return ListAnswer::End(next),
             Step::Refused(r) => {

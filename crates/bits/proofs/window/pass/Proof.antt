@@ -7,7 +7,7 @@ use Rattle.bits.proofs.window.pass.Tie as tie
 returns : tie.Need-returns
 returns c =
     let a = c .before .before .args in
-    λ s shown. passed (a .window .word) (a .window .left) (a .n) s (c .before .before .pre .0) shown
+    λ s shown. passed (a .window .word) (a .window .known) (a .n) s (c .before .before .pre .0) shown
 
 pub pass-spec : {M : Type 1} → statement M
 pass-spec = tie.close (tie.spec (λ c. search needs) (λ c. search needs) returns)

@@ -17,11 +17,11 @@ use Rattle.levels.proofs.svq3_coeff.decode_list.Statement.{statement}
 use Rattle.levels.proofs.svq3_coeff.decode_list.Tie as tie
 
 abbrev Inv-loop : tie.InvT-loop
-Inv-loop out₀ base bits at book start count position₀ p₀ word₀ left₀ out position p word left =
-    Reading book start at (bitList bits) out₀ base position p out × (count ≡ positions book) × Shows word left (drop p (bitList bits))
+Inv-loop out₀ base bits at book start count position₀ p₀ word₀ known₀ out position p word known =
+    Reading book start at (bitList bits) out₀ base position p out × (count ≡ positions book) × Shows word known (drop p (bitList bits))
 
 abbrev μ-loop : tie.MeasureT-loop
-μ-loop out₀ base bits at book start count position₀ p₀ word₀ left₀ out position p word left = positions book - position
+μ-loop out₀ base bits at book start count position₀ p₀ word₀ known₀ out position p word known = positions book - position
 
 few : (book : ResidualBook) → positions book ≤ 16
 few NormalScan = omega arith

@@ -24,7 +24,7 @@ there c =
     let w = a .window in
     let e = c .before .entry-of in
     let low = c .before .before .if1 .taken in
-    inside (a .book) (a .bits .now) (a .at) _ _ (level-found (a .book) b (a .at) (w .word) (w .left) (s .pre .1) (e .result) low (e .ensures) (c .if2 .taken)) (size-some (a .book) b (a .at) (w .word) (w .left) (s .pre .1) (e .result) low (e .ensures) (c .if2 .taken))
+    inside (a .book) (a .bits .now) (a .at) _ _ (level-found (a .book) b (a .at) (w .word) (w .known) (s .pre .1) (e .result) low (e .ensures) (c .if2 .taken)) (size-some (a .book) b (a .at) (w .word) (w .known) (s .pre .1) (e .result) low (e .ensures) (c .if2 .taken))
 
 pass-requires : tie.Need-pass-requires
 pass-requires c κs =
@@ -32,7 +32,7 @@ pass-requires c κs =
     let a = s .args in
     let e = c .before .before .entry-of in
     let t = c .before .if2 .taken in
-    (t, omega (arith, size-few (a .book) (bitList (a .bits .now)) (a .at) (a .window .word) (a .window .left) (s .pre .1) (e .result) (c .before .before .before .if1 .taken) (e .ensures) t))
+    (t, omega (arith, size-few (a .book) (bitList (a .bits .now)) (a .at) (a .window .word) (a .window .known) (s .pre .1) (e .result) (c .before .before .before .if1 .taken) (e .ensures) t))
 
 returns : tie.Need-returns
 returns c =
@@ -41,14 +41,14 @@ returns c =
     let b = bitList (a .bits .now) in
     let e = c .before .before .before .entry-of in
     let l = c .before .entry-level in
-    entry-stepped (a .book) b (a .at) (a .window .word) (a .window .left) (s .pre .1) (e .result) (c .before .before .before .before .if1 .taken) (e .ensures) (c .before .before .if2 .taken) _ _ _ (toZ-ofZ (record { sfits = l .ok }) ∙ l .ensures) (c .pass .ensures (drop (a .at) b) (s .pre .1))
+    entry-stepped (a .book) b (a .at) (a .window .word) (a .window .known) (s .pre .1) (e .result) (c .before .before .before .before .if1 .taken) (e .ensures) (c .before .before .if2 .taken) _ _ _ (toZ-ofZ (record { sfits = l .ok }) ∙ l .ensures) (c .pass .ensures (drop (a .at) b) (s .pre .1))
 
 -- the code 0
 ended : (c : tie.Then3) → levelRun (c .before .before .before .args .book) (drop (c .before .before .before .args .at) (bitList (c .before .before .before .args .bits .now))) ≡ got End 1
 ended c =
     let s = c .before .before .before in
     let a = s .args in
-    one-found (a .book) (bitList (a .bits .now)) (a .at) (a .window .word) (a .window .left) (s .pre .1) (c .if3 .taken) (c .before .if1 .left) (omega arith)
+    one-found (a .book) (bitList (a .bits .now)) (a .at) (a .window .word) (a .window .known) (s .pre .1) (c .if3 .taken) (c .before .if1 .left) (omega arith)
 
 returns-2 : tie.Need-returns-2
 returns-2 c =
