@@ -52,7 +52,7 @@ module _ (k : ℕ) (low : 1179648 ≤ k) (high : k < 2 ^ 21) (v : ℤ) (h : natA
   pub less-fits : SFits w32 (toZ w32 (natAbs (read w32 raised) / 6) -ℤ pos 262144)
   less-fits = rw (toZ-pos w32 {n = natAbs (read w32 raised) / 6} (omega (arith, number-small))) (record { sfits = omega (arith, z-rules, number-small, diff-z (pos (natAbs (read w32 raised) / 6)) (pos 262144), mag-z (pos (natAbs (read w32 raised) / 6) -ℤ pos 262144)) })
 
-  -- a sixth of k is 262144, and 3 are left
+  -- a sixth of k is 262144, and 3 remain
   pub sixth-read : k ≡ 6 * 262144 + 3 → read w32 (toZ w32 (natAbs (read w32 raised) / 6) -ℤ pos 262144) ≡ floorZ (v +ℤ pos 3) 6
   sixth-read e =
       toZ-ofZ less-fits

@@ -138,7 +138,7 @@ pub fn stored_scale(precision: Svq3MvPrecision) -> i32
     }
 }
 
-// A component in sixths, and whether a sum or a product left i32 on the way.
+// A component in sixths, and whether a sum or a product went beyond i32 on the way.
 pub struct Moved {
     pub value: Sixths,
     pub clipped: bool,
