@@ -213,7 +213,14 @@ class Shape:
     # texts
     def opening(self, uses, types, functions):
         """The `use` lines: of declared types, of the values' types, of the functions called, of the function itself."""
-        out = [USES] + (['use denote.Enum.Laws as EL'] if self.laws == 'EL' else []) + ['use ' + u for u in uses]
+        out = USES.split('\n') + (['use denote.Enum.Laws as EL'] if self.laws == 'EL' else [])
+        for u in uses:
+            # names of a file that has its line join it
+            here = [i for i, line in enumerate(out) if line.startswith(f'use {u[:u.index("{") + 1]}')] if '{' in u else []
+            if here:
+                out[here[0]] = f'{out[here[0]][:-1]}, {u[u.index("{") + 1:]}'
+            else:
+                out.append('use ' + u)
         for name, of, as_name in types:
             # a type that a module declares is named with it
             out.append(f'use {self.home(of, "specs")}.declared.{name}.{{{name.split(".")[-1]}}}')

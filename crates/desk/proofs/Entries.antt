@@ -11,10 +11,10 @@ use Rattle.ints.specs.Z.{if_then_else_}
 use Rattle.state.specs.declared.Call.{Call}
 use Rattle.state.specs.State.{State}
 use Rattle.macroblock.specs.Decode.{decoded}
-use Rattle.macroblock.specs.Entry.{stateOf, left, quantiserBy}
+use Rattle.macroblock.specs.Entry.{stateOf, mbLeft, quantiserBy}
 use Rattle.state.specs.declared.Frame.{Frame}
 use Rattle.macroblock.specs.declared.MbAnswer.{MbAnswer}
-use Rattle.run.specs.Left.{leftOf, listLeft}
+use Rattle.run.specs.Left.{runLeft, listLeft}
 use Rattle.run.specs.declared.Report.{Report}
 use Rattle.replay.specs.Replay.{quantiserOf, replayLeft, replayed}
 use Rattle.replay.specs.declared.ReplayAnswer.{ReplayAnswer}
@@ -52,7 +52,7 @@ module _ (frame : Frame) (q : ℕ) (ry rcb rcr : List ℕ) (s : Slices) where
 
   module _ (f : Frame) (is : f ≡ frame) (y cb cr : List ℕ) (mv : List ℤ) (marks transcript counts : List ℕ) (code : ℤ) where
     pub mb-done : (call : Call) (bits : List ℕ) (place fill : ℕ) (answer : MbAnswer) → 5 ≤ length (s .counts)
-        → left answer (stateOf f (quantiserBy q answer) ry rcb rcr y cb cr mv marks) transcript ≡ decoded (startOf f q ry rcb rcr s) call bits place (s .transcript) fill
+        → mbLeft answer (stateOf f (quantiserBy q answer) ry rcb rcr y cb cr mv marks) transcript ≡ decoded (startOf f q ry rcb rcr s) call bits place (s .transcript) fill
         → code ≡ mbCode answer
         → counts ≡ sets (s .counts) 0 (mbCounts answer place q fill)
         → ended code (slicesOf y cb cr mv marks transcript counts) ≡ mbEnded start s call bits place fill
@@ -63,7 +63,7 @@ module _ (frame : Frame) (q : ℕ) (ry rcb rcr : List ℕ) (s : Slices) where
         ∙ long-enough 5 s _ enough
 
     pub run-done : (calls bits : List ℕ) (place : ℕ) (r : Report) → 5 ≤ length (s .counts)
-        → leftOf r (stateOf f (r .quantiser) ry rcb rcr y cb cr mv marks) transcript ≡ listLeft (startOf f q ry rcb rcr s) calls bits place (s .transcript)
+        → runLeft r (stateOf f (r .quantiser) ry rcb rcr y cb cr mv marks) transcript ≡ listLeft (startOf f q ry rcb rcr s) calls bits place (s .transcript)
         → code ≡ stopCode (r .stop)
         → counts ≡ sets (s .counts) 0 (runCounts r)
         → ended code (slicesOf y cb cr mv marks transcript counts) ≡ runEnded start s calls bits place

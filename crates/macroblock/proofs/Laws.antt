@@ -33,7 +33,7 @@ use Rattle.reading.proofs.Answers.{ReadBy, was-read, read-refused, read-coded, 
 use Rattle.apply.specs.Apply.{appliedLuma, appliedChroma, appliedField}
 use Rattle.state.specs.State.{State, fieldOf, contextOf, lengthsOf}
 use Rattle.macroblock.specs.Decode.{Outcome, quantiserAfter, applied, outcomeOf, unlessRefused, asked, decoded}
-use Rattle.macroblock.specs.Entry.{left, quantiserBy, cursorBy}
+use Rattle.macroblock.specs.Entry.{mbLeft, quantiserBy, cursorBy}
 use Rattle.state.specs.declared.Cursor.{Cursor}
 use Rattle.macroblock.specs.declared.MbAnswer.{MbAnswer}
 use Rattle.macroblock.specs.declared.MbAnswer.the-variants.{Accepted, Refused}
@@ -79,7 +79,7 @@ module _ (s : State) (call : Call) (bits : List ℕ) (place : ℕ) (transcript :
   asked-by answer free e f = e ∙ ap (λ (n : ℕ). askCall (s .cols) (s .rows) (lengthsOf s) call (s .quantiser) (length bits) place n) f
 
   -- ---- a question was answered with no
-  pub not-asked : (answer : Asked) (why : Refusal) → answer ≡ asked s call bits place transcript fill → answer ≡ No why → left (Refused why) s transcript ≡ decoded s call bits place transcript fill
+  pub not-asked : (answer : Asked) (why : Refusal) → answer ≡ asked s call bits place transcript fill → answer ≡ No why → mbLeft (Refused why) s transcript ≡ decoded s call bits place transcript fill
   unfolding decoded
   not-asked answer why e is = rw (sym e ∙ is)
 
@@ -109,12 +109,12 @@ module _ (s : State) (call : Call) (bits : List ℕ) (place : ℕ) (transcript :
         → cr ≡ appliedChroma 1 (s .cols) (s .rows) (s .rcr) (skipRecord (call .column) (call .row)) (s .cr)
         → mv ≡ appliedField (skipRecord (call .column) (call .row)) (fieldOf s) .mv
         → marks ≡ appliedField (skipRecord (call .column) (call .row)) (fieldOf s) .marks
-        → left (Accepted (record { place = place; quantiser = s .quantiser; fill = filled; clipped = 0 })) (changed s (s .quantiser) y cb cr mv marks) bytes ≡ decoded s call bits place transcript fill
+        → mbLeft (Accepted (record { place = place; quantiser = s .quantiser; fill = filled; clipped = 0 })) (changed s (s .quantiser) y cb cr mv marks) bytes ≡ decoded s call bits place transcript fill
     unfolding outcomeOf applied quantiserAfter skipRecord readMacroblock if_then_else_
     skipped m filled y cb cr mv marks bytes w ey ecb ecr em ek =
         let e : found ≡ got (skipRecord (call .column) (call .row)) 0 = rw (eq-eqb (call .mode) 0 m) in
         let p : place ≡ place + 0 = omega arith in
-        (λ i. left (Accepted (record { place = p i; quantiser = s .quantiser; fill = w .moved i; clipped = 0 })) (changed s (s .quantiser) (ey i) (ecb i) (ecr i) (em i) (ek i)) (w .leaves i)) ∙ on (got (skipRecord (call .column) (call .row)) 0) e
+        (λ i. mbLeft (Accepted (record { place = p i; quantiser = s .quantiser; fill = w .moved i; clipped = 0 })) (changed s (s .quantiser) (ey i) (ecb i) (ecr i) (em i) (ek i)) (w .leaves i)) ∙ on (got (skipRecord (call .column) (call .row)) 0) e
 
     -- ---- no skip
     module _ (some : 0 < call .mode) where
@@ -122,7 +122,7 @@ module _ (s : State) (call : Call) (bits : List ℕ) (place : ℕ) (transcript :
       on-coded o e = on o (read-coded (contextOf s) call (drop place (bitList bits)) some ∙ e)
 
       pub not-read : (answer : ReadAnswer) (why : Refusal) (vs ls : List ℤ) → Reading place foundCoded answer vs ls → answer ≡ read.Refused why
-          → left (Refused why) s transcript ≡ decoded s call bits place transcript fill
+          → mbLeft (Refused why) s transcript ≡ decoded s call bits place transcript fill
       unfolding outcomeOf
       not-read answer why vs ls r is = on-coded (refused why) (read-refused place foundCoded why vs ls (rw is at r))
 
@@ -151,11 +151,11 @@ module _ (s : State) (call : Call) (bits : List ℕ) (place : ℕ) (transcript :
             → cr ≡ appliedChroma 1 (s .cols) (s .rows) (s .rcr) (recordOf h vs ls) (s .cr)
             → mv ≡ appliedField (recordOf h vs ls) (fieldOf s) .mv
             → marks ≡ appliedField (recordOf h vs ls) (fieldOf s) .marks
-            → left (Accepted (record { place = next; quantiser = h .quantiser; fill = filled; clipped = h .clipped })) (changed s (h .quantiser) y cb cr mv marks) bytes ≡ decoded s call bits place transcript fill
+            → mbLeft (Accepted (record { place = next; quantiser = h .quantiser; fill = filled; clipped = h .clipped })) (changed s (h .quantiser) y cb cr mv marks) bytes ≡ decoded s call bits place transcript fill
         unfolding outcomeOf applied
         accepted filled y cb cr mv marks bytes w ey ecb ecr em ek =
             let q = sym (coded-quantiser s (recordOf h vs ls) no-skip) in
-            (λ i. left (Accepted (record { place = by .moved i; quantiser = q i; fill = w .moved i; clipped = h .clipped })) (changed s (q i) (ey i) (ecb i) (ecr i) (em i) (ek i)) (w .leaves i))
+            (λ i. mbLeft (Accepted (record { place = by .moved i; quantiser = q i; fill = w .moved i; clipped = h .clipped })) (changed s (q i) (ey i) (ecb i) (ecr i) (em i) (ek i)) (w .leaves i))
             ∙ on-coded (got (recordOf h vs ls) (by .taken)) (by .is)
 
 -- ---- the caller's record moved on by an answer has the answer's quantiser

@@ -50,8 +50,8 @@ abbrev pub quantiserBy : ℕ → MbAnswer → ℕ
 quantiserBy q (Accepted report) = report .quantiser
 quantiserBy q (Refused why) = q
 
-abbrev pub left : MbAnswer → State → List ℕ → Outcome
-left answer s transcript = record { answer = answer; state = s; transcript = transcript }
+abbrev pub mbLeft : MbAnswer → State → List ℕ → Outcome
+mbLeft answer s transcript = record { answer = answer; state = s; transcript = transcript }
 
 -- where an answer leaves the caller's place and quantiser
 abbrev pub cursorBy : ℕ → ℕ → MbAnswer → Cursor

@@ -2,7 +2,7 @@
 ghost use mathlib.Core.Path.{_≡_};
 ghost use Prim.Native.Nat.{_<_, _-_};
 ghost use Rattle.macroblock.specs.Decode.{asked, decoded};
-ghost use Rattle.macroblock.specs.Entry.{stateNow, stateBefore, stateAfter, quantiserBy, left};
+ghost use Rattle.macroblock.specs.Entry.{stateNow, stateBefore, stateAfter, quantiserBy, mbLeft};
 use crate::MbAnswer;
 use crate::MbReport;
 use apply::applied::apply_coded;
@@ -37,7 +37,7 @@ fn decode_coded(
 ) -> MbAnswer
     requires { ⌜ asked (stateNow frame quantiser ry rcb rcr y cb cr mv marks) call (now bits) place (now transcript) fill ≡ Asked.Yes ⌝ }
     requires { ⌜ 0 < call .mode ⌝ }
-    ensures { λ r. ⌜ left r (stateAfter frame (quantiserBy quantiser r) ry rcb rcr y cb cr mv marks) (now (transcript .exit))
+    ensures { λ r. ⌜ mbLeft r (stateAfter frame (quantiserBy quantiser r) ry rcb rcr y cb cr mv marks) (now (transcript .exit))
         ≡ decoded (stateBefore frame quantiser ry rcb rcr y cb cr mv marks) call (now (bits .entry)) place (now (transcript .entry)) fill ⌝ }
 {
     let mut vectors = [0i32; 32];
@@ -113,7 +113,7 @@ fn decode_skip(
 ) -> MbAnswer
     requires { ⌜ asked (stateNow frame quantiser ry rcb rcr y cb cr mv marks) call (now bits) place (now transcript) fill ≡ Asked.Yes ⌝ }
     requires { ⌜ call .mode ≡ 0 ⌝ }
-    ensures { λ r. ⌜ left r (stateAfter frame (quantiserBy quantiser r) ry rcb rcr y cb cr mv marks) (now (transcript .exit))
+    ensures { λ r. ⌜ mbLeft r (stateAfter frame (quantiserBy quantiser r) ry rcb rcr y cb cr mv marks) (now (transcript .exit))
         ≡ decoded (stateBefore frame quantiser ry rcb rcr y cb cr mv marks) call (now (bits .entry)) place (now (transcript .entry)) fill ⌝ }
 {
     let filled = put_skip(transcript, fill, call.column, call.row);
@@ -158,7 +158,7 @@ fn decode_asked(
     fill: usize,
 ) -> MbAnswer
     requires { ⌜ asked (stateNow frame quantiser ry rcb rcr y cb cr mv marks) call (now bits) place (now transcript) fill ≡ Asked.Yes ⌝ }
-    ensures { λ r. ⌜ left r (stateAfter frame (quantiserBy quantiser r) ry rcb rcr y cb cr mv marks) (now (transcript .exit))
+    ensures { λ r. ⌜ mbLeft r (stateAfter frame (quantiserBy quantiser r) ry rcb rcr y cb cr mv marks) (now (transcript .exit))
         ≡ decoded (stateBefore frame quantiser ry rcb rcr y cb cr mv marks) call (now (bits .entry)) place (now (transcript .entry)) fill ⌝ }
 {
     if call.mode == 0 {
@@ -218,7 +218,7 @@ pub fn decode_inter_mb(
     place: usize,
     fill: usize,
 ) -> MbAnswer
-    ensures { λ r. ⌜ left r (stateAfter frame (quantiserBy quantiser r) ry rcb rcr y cb cr mv marks) (now (transcript .exit))
+    ensures { λ r. ⌜ mbLeft r (stateAfter frame (quantiserBy quantiser r) ry rcb rcr y cb cr mv marks) (now (transcript .exit))
         ≡ decoded (stateBefore frame quantiser ry rcb rcr y cb cr mv marks) call (now (bits .entry)) place (now (transcript .entry)) fill ⌝ }
 {
     // Read one by one and at once: a wide load of two numbers that were just stored apart would wait for every store before them.

@@ -31,5 +31,5 @@ unfoldable pub listLeft : State → List ℕ → List ℕ → ℕ → List ℕ �
 listLeft s list bits place transcript = leaves 0 place (ranList s list bits place transcript)
 
 -- as the code has it
-abbrev pub leftOf : Report → State → List ℕ → Left
-leftOf r s transcript = record { report = r; state = s; transcript = transcript }
+abbrev pub runLeft : Report → State → List ℕ → Left
+runLeft r s transcript = record { report = r; state = s; transcript = transcript }

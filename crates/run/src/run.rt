@@ -2,7 +2,7 @@
 ghost use mathlib.Core.Path.{_≡_};
 ghost use Rattle.macroblock.specs.Entry.{stateBefore, stateAfter};
 ghost use Rattle.run.specs.InnerLeft.{Listed, callsLeft};
-ghost use Rattle.run.specs.Left.{leftOf, listLeft};
+ghost use Rattle.run.specs.Left.{runLeft, listLeft};
 use crate::Report;
 use crate::Stop;
 use crate::calls::CallAnswer;
@@ -35,7 +35,7 @@ fn run_calls(
     place: usize,
 ) -> Report
     requires { ⌜ Listed (now list) ⌝ }
-    ensures { λ r. ⌜ leftOf r (stateAfter frame (r .quantiser) ry rcb rcr y cb cr mv marks) (now (transcript .exit))
+    ensures { λ r. ⌜ runLeft r (stateAfter frame (r .quantiser) ry rcb rcr y cb cr mv marks) (now (transcript .exit))
         ≡ callsLeft (stateBefore frame quantiser ry rcb rcr y cb cr mv marks) (now (list .entry)) (now (bits .entry)) place (now (transcript .entry)) ⌝ }
 {
     let mut q = quantiser;
@@ -105,7 +105,7 @@ pub fn run(
     quantiser: u32,
     place: usize,
 ) -> Report
-    ensures { λ r. ⌜ leftOf r (stateAfter frame (r .quantiser) ry rcb rcr y cb cr mv marks) (now (transcript .exit))
+    ensures { λ r. ⌜ runLeft r (stateAfter frame (r .quantiser) ry rcb rcr y cb cr mv marks) (now (transcript .exit))
         ≡ listLeft (stateBefore frame quantiser ry rcb rcr y cb cr mv marks) (now (list .entry)) (now (bits .entry)) place (now (transcript .entry)) ⌝ }
 {
     match check_calls(list) {

@@ -4,7 +4,7 @@ pub mod svq3_frame;
 
 ghost use mathlib.Core.Path.{_≡_};
 ghost use Rattle.macroblock.specs.Entry.{stateBefore, stateAfter};
-ghost use Rattle.run.specs.Left.{leftOf, listLeft};
+ghost use Rattle.run.specs.Left.{runLeft, listLeft};
 ghost use Rattle.thin.specs.Cursor.{cursorOf};
 use run::Report;
 use run::run::run;
@@ -37,7 +37,7 @@ pub fn run_at(
     cursor: &mut Cursor,
     frame: Frame,
 ) -> Report
-    ensures { λ r. ⌜ (leftOf r (stateAfter frame (r .quantiser) ry rcb rcr y cb cr mv marks) (now (transcript .exit))
+    ensures { λ r. ⌜ (runLeft r (stateAfter frame (r .quantiser) ry rcb rcr y cb cr mv marks) (now (transcript .exit))
         ≡ listLeft (stateBefore frame (now (cursor .entry) .quantiser) ry rcb rcr y cb cr mv marks) (now (list .entry)) (now (bits .entry)) (now (cursor .entry) .place) (now (transcript .entry)))
         × (now (cursor .exit) ≡ cursorOf r) ⌝ }
 {

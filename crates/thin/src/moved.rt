@@ -1,8 +1,8 @@
 // The thin entries on a cursor made for the call: a function that the borrow checker covers cannot lend a struct, and calls these.
 ghost use mathlib.Core.Path.{_≡_};
 ghost use Rattle.macroblock.specs.Decode.{decoded};
-ghost use Rattle.macroblock.specs.Entry.{stateBefore, stateAfter, left, cursorBy};
-ghost use Rattle.run.specs.Left.{leftOf, listLeft};
+ghost use Rattle.macroblock.specs.Entry.{stateBefore, stateAfter, mbLeft, cursorBy};
+ghost use Rattle.run.specs.Left.{runLeft, listLeft};
 ghost use Rattle.thin.specs.Cursor.{cursorOf};
 use crate::run_at;
 use crate::svq3_frame::decode_inter_mb_at;
@@ -40,7 +40,7 @@ pub fn decode_moved(
     place: usize,
     fill: usize,
 ) -> MbMoved
-    ensures { λ r. ⌜ (left (r .answer) (stateAfter frame (r .cursor .quantiser) ry rcb rcr y cb cr mv marks) (now (transcript .exit))
+    ensures { λ r. ⌜ (mbLeft (r .answer) (stateAfter frame (r .cursor .quantiser) ry rcb rcr y cb cr mv marks) (now (transcript .exit))
         ≡ decoded (stateBefore frame quantiser ry rcb rcr y cb cr mv marks) call (now (bits .entry)) place (now (transcript .entry)) fill)
         × (r .cursor ≡ cursorBy place quantiser (r .answer)) ⌝ }
 {
@@ -80,7 +80,7 @@ pub fn run_moved(
     quantiser: u32,
     place: usize,
 ) -> RunMoved
-    ensures { λ r. ⌜ (leftOf (r .report) (stateAfter frame (r .report .quantiser) ry rcb rcr y cb cr mv marks) (now (transcript .exit))
+    ensures { λ r. ⌜ (runLeft (r .report) (stateAfter frame (r .report .quantiser) ry rcb rcr y cb cr mv marks) (now (transcript .exit))
         ≡ listLeft (stateBefore frame quantiser ry rcb rcr y cb cr mv marks) (now (list .entry)) (now (bits .entry)) place (now (transcript .entry)))
         × (r .cursor ≡ cursorOf (r .report)) ⌝ }
 {

@@ -1,7 +1,7 @@
 // The entry that moves on the caller's record.
 ghost use mathlib.Core.Path.{_≡_};
 ghost use Rattle.macroblock.specs.Decode.{decoded};
-ghost use Rattle.macroblock.specs.Entry.{stateBefore, stateAfter, left, cursorBy};
+ghost use Rattle.macroblock.specs.Entry.{stateBefore, stateAfter, mbLeft, cursorBy};
 use macroblock::MbAnswer;
 use macroblock::cursor_by;
 use macroblock::svq3_frame::decode_inter_mb;
@@ -26,7 +26,7 @@ pub fn decode_inter_mb_at(
     call: Call,
     fill: usize,
 ) -> MbAnswer
-    ensures { λ r. ⌜ (left r (stateAfter frame (now (cursor .exit) .quantiser) ry rcb rcr y cb cr mv marks) (now (transcript .exit))
+    ensures { λ r. ⌜ (mbLeft r (stateAfter frame (now (cursor .exit) .quantiser) ry rcb rcr y cb cr mv marks) (now (transcript .exit))
         ≡ decoded (stateBefore frame (now (cursor .entry) .quantiser) ry rcb rcr y cb cr mv marks) call (now (bits .entry)) (now (cursor .entry) .place) (now (transcript .entry)) fill)
         × (now (cursor .exit) ≡ cursorBy (now (cursor .entry) .place) (now (cursor .entry) .quantiser) r) ⌝ }
 {

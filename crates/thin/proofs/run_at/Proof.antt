@@ -44,7 +44,7 @@ use denote.Triple.Table.{entered, cited}
 use denote.Triple.Walked.{says, needs, Stays, stay-ref, stay-none, stay-none-slice, gave-slice, walkOf, goes-none, goes-ref, goes-none-slice, goes-gave-slice, Walks, ends-at, walked, walk-meets}
 use denote.Exit.{yes}
 use Rattle.macroblock.specs.Entry.{stateOf}
-use Rattle.run.specs.Left.{leftOf, listLeft}
+use Rattle.run.specs.Left.{runLeft, listLeft}
 use Rattle.thin.specs.Cursor.{cursorOf}
 use Rattle.state.specs.declared.Cursor.{Cursor}
 use Rattle.state.proofs.Cursor as T
@@ -128,7 +128,7 @@ module _ {M : Type 1} (𝓤 : URA M) (H : Heap 𝓤) (A : Atoms 𝓤) (W : Given
 
   -- what the callee ensures
   abbrev Said : Report → Lasts → Type 0
-  Said m zs = leftOf m (stateOf w0 (m .quantiser) (x6 .now) (x7 .now) (x8 .now) (zs .0) (zs .1 .0) (zs .1 .1 .0) (zs .1 .1 .1 .0) (zs .1 .1 .1 .1 .0)) (zs .1 .1 .1 .1 .1 .0) ≡ listLeft (stateOf w0 (h .quantiser) (x6 .now) (x7 .now) (x8 .now) (x0 .now) (x1 .now) (x2 .now) (x3 .now) (x4 .now)) (x10 .now) (x9 .now) (h .place) (x5 .now)
+  Said m zs = runLeft m (stateOf w0 (m .quantiser) (x6 .now) (x7 .now) (x8 .now) (zs .0) (zs .1 .0) (zs .1 .1 .0) (zs .1 .1 .1 .0) (zs .1 .1 .1 .1 .0)) (zs .1 .1 .1 .1 .1 .0) ≡ listLeft (stateOf w0 (h .quantiser) (x6 .now) (x7 .now) (x8 .now) (x0 .now) (x1 .now) (x2 .now) (x3 .now) (x4 .now)) (x10 .now) (x9 .now) (h .place) (x5 .now)
 
   -- the second call, on the answer m, whose machine value is u
   abbrev AArg : Type 0

@@ -3,7 +3,7 @@ use mathlib.Core.Path.{sym, ap, _∙_}
 use denote.Ref.{now}
 use Rattle.state.specs.State.{State}
 use Rattle.macroblock.specs.Entry.{stateNow}
-use Rattle.run.specs.Left.{Left, leftOf}
+use Rattle.run.specs.Left.{Left, runLeft}
 use Rattle.run.specs.declared.Report.{Report}
 use Rattle.run.proofs.Whole.{listed, refused-list, no-call, some-calls}
 use borrow.Author.Needs.{needs}
@@ -15,7 +15,7 @@ abbrev S : tie.Start → State
 S s = stateNow (s .args .frame) (s .args .quantiser) (s .args .ry) (s .args .rcb) (s .args .rcr) (s .args .y) (s .args .cb) (s .args .cr) (s .args .mv) (s .args .marks)
 
 abbrev nothing : tie.Start → Report → Left
-nothing s r = leftOf r (stateNow (s .args .frame) (r .quantiser) (s .args .ry) (s .args .rcb) (s .args .rcr) (s .args .y) (s .args .cb) (s .args .cr) (s .args .mv) (s .args .marks)) (now (s .args .transcript))
+nothing s r = runLeft r (stateNow (s .args .frame) (r .quantiser) (s .args .ry) (s .args .rcb) (s .args .rcr) (s .args .y) (s .args .cb) (s .args .cr) (s .args .mv) (s .args .marks)) (now (s .args .transcript))
 
 returns : tie.Need-returns
 returns c =

@@ -6,7 +6,7 @@ use borrow.Author.Needs.{needs}
 use denote.Ref.{now}
 use lib.ListN.{length}
 use Rattle.macroblock.specs.Entry.{stateOf}
-use Rattle.run.specs.Left.{leftOf}
+use Rattle.run.specs.Left.{runLeft}
 use Rattle.run.specs.InnerLeft.{callsLeft}
 use Rattle.run.specs.declared.Report.{Report}
 use Rattle.run.proofs.Turns.{Going, start, end, in-form, stopped, on, further, forward}
@@ -144,7 +144,7 @@ returns-2 c =
     let l = c .before .before .before .before .before .before .before .before .before .before .before .before .before .before .before .before .before .before .before .before .before .before .before .before .before .before .before .loop in
     let a = c .before .before .before .before .before .before .before .before .before .before .before .before .before .before .before .before .before .before .before .before .before .before .before .before .before .before .before .before .before .before .before .before .before .before .before .before .before .before .args in
     let d = c .before .before .before .before .before .before .before .before .before .before .before .before .before .before .before .decode-inter-mb in
-    ap (λ (r : Report). leftOf r (stateOf (a .frame) (r .quantiser) (now (a .ry)) (now (a .rcb)) (now (a .rcr)) (d .last .0) (d .last .1 .0) (d .last .1 .1 .0) (d .last .1 .1 .1 .0) (d .last .1 .1 .1 .1 .0)) (d .last .1 .1 .1 .1 .1 .0)) (c .report-of2 .ensures)
+    ap (λ (r : Report). runLeft r (stateOf (a .frame) (r .quantiser) (now (a .ry)) (now (a .rcb)) (now (a .rcr)) (d .last .0) (d .last .1 .0) (d .last .1 .1 .0) (d .last .1 .1 .1 .0) (d .last .1 .1 .1 .1 .0)) (d .last .1 .1 .1 .1 .1 .0)) (c .report-of2 .ensures)
     ∙ stopped (l .inv .6) (c .before .before .before .before .before .before .before .before .before .before .before .before .before .before .before .before .before .before .before .before .before .before .before .before .before .before .loop-test .taken) (sym (c .before .before .before .before .before .before .before .before .before .before .before .before .before .before .before .before .before .before .before .before .before .before .before .call .given .1) ∙ c .before .before .before .before .before .before .before .before .before .before .before .before .before .before .before .before .before .before .before .before .before .before .before .before .before .read-call .ensures) (l .q) refl
     (λ q. stateOf (a .frame) q (now (a .ry)) (now (a .rcb)) (now (a .rcr)) (d .last .0) (d .last .1 .0) (d .last .1 .1 .0) (d .last .1 .1 .1 .0) (d .last .1 .1 .1 .1 .0))
     (d .result) (d .last .1 .1 .1 .1 .1 .0) (d .ensures) (c .before .before .why .given .1)
@@ -174,7 +174,7 @@ returns-3 : tie.Need-returns-3 Inv-loop μ-loop
 returns-3 c =
     let l = c .before .before .loop in
     let a = c .before .before .before .before .before .before .before .before .before .before .before .before .before .args in
-    ap (λ (r : Report). leftOf r (stateOf (a .frame) (r .quantiser) (now (a .ry)) (now (a .rcb)) (now (a .rcr)) (l .y) (l .cb) (l .cr) (l .mv) (l .marks)) (l .transcript)) (c .report-of3 .ensures)
+    ap (λ (r : Report). runLeft r (stateOf (a .frame) (r .quantiser) (now (a .ry)) (now (a .rcb)) (now (a .rcr)) (l .y) (l .cb) (l .cr) (l .mv) (l .marks)) (l .transcript)) (c .report-of3 .ensures)
     ∙ end (l .inv .6) (c .before .loop-test .left)
 
 pub run-calls-spec : {M : Type 1} → statement M

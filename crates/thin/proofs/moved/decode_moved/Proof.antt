@@ -48,7 +48,7 @@ use types.Tokens.{lft-new, lft-end}
 use denote.Lend.{LentRef}
 use Rattle.thin.proofs.Lent.{mach, lends, comes-back}
 use Rattle.macroblock.specs.Decode.{decoded}
-use Rattle.macroblock.specs.Entry.{stateOf, left, cursorBy}
+use Rattle.macroblock.specs.Entry.{stateOf, mbLeft, cursorBy}
 use Rattle.state.specs.declared.Cursor.{Cursor}
 use Rattle.state.proofs.Cursor as T
 use Rattle.state.proofs.Cursor.Laws as T′
@@ -147,7 +147,7 @@ module _ {M : Type 1} (𝓤 : URA M) (H : Heap 𝓤) (A : Atoms 𝓤) (W : Given
 
   -- what the callee ensures
   abbrev Said : MbAnswer → Lasts → Type 0
-  Said m zs = (left m (stateOf w0 (zs .1 .1 .1 .1 .1 .1 .1 .1 .1 .1 .0 .quantiser) (x6 .now) (x7 .now) (x8 .now) (zs .0) (zs .1 .0) (zs .1 .1 .0) (zs .1 .1 .1 .0) (zs .1 .1 .1 .1 .0)) (zs .1 .1 .1 .1 .1 .0) ≡ decoded (stateOf w0 w2 (x6 .now) (x7 .now) (x8 .now) (x0 .now) (x1 .now) (x2 .now) (x3 .now) (x4 .now)) w1 (x9 .now) w3 (x5 .now) w4) × (zs .1 .1 .1 .1 .1 .1 .1 .1 .1 .1 .0 ≡ cursorBy w3 w2 m)
+  Said m zs = (mbLeft m (stateOf w0 (zs .1 .1 .1 .1 .1 .1 .1 .1 .1 .1 .0 .quantiser) (x6 .now) (x7 .now) (x8 .now) (zs .0) (zs .1 .0) (zs .1 .1 .0) (zs .1 .1 .1 .0) (zs .1 .1 .1 .1 .0)) (zs .1 .1 .1 .1 .1 .0) ≡ decoded (stateOf w0 w2 (x6 .now) (x7 .now) (x8 .now) (x0 .now) (x1 .now) (x2 .now) (x3 .now) (x4 .now)) w1 (x9 .now) w3 (x5 .now) w4) × (zs .1 .1 .1 .1 .1 .1 .1 .1 .1 .1 .0 ≡ cursorBy w3 w2 m)
 
   -- the result, and its machine value
   abbrev res : MbAnswer → Lasts → MbMoved

@@ -47,7 +47,7 @@ use types.Tokens.{lft-new, lft-end}
 use denote.Lend.{LentRef}
 use Rattle.thin.proofs.Lent.{mach, lends, comes-back}
 use Rattle.macroblock.specs.Entry.{stateOf}
-use Rattle.run.specs.Left.{leftOf, listLeft}
+use Rattle.run.specs.Left.{runLeft, listLeft}
 use Rattle.thin.specs.Cursor.{cursorOf}
 use Rattle.state.specs.declared.Cursor.{Cursor}
 use Rattle.state.proofs.Cursor as T
@@ -138,7 +138,7 @@ module _ {M : Type 1} (𝓤 : URA M) (H : Heap 𝓤) (A : Atoms 𝓤) (W : Given
 
   -- what the callee ensures
   abbrev Said : Report → Lasts → Type 0
-  Said m zs = (leftOf m (stateOf w0 (m .quantiser) (x6 .now) (x7 .now) (x8 .now) (zs .0) (zs .1 .0) (zs .1 .1 .0) (zs .1 .1 .1 .0) (zs .1 .1 .1 .1 .0)) (zs .1 .1 .1 .1 .1 .0) ≡ listLeft (stateOf w0 w1 (x6 .now) (x7 .now) (x8 .now) (x0 .now) (x1 .now) (x2 .now) (x3 .now) (x4 .now)) (x10 .now) (x9 .now) w2 (x5 .now)) × (zs .1 .1 .1 .1 .1 .1 .1 .1 .1 .1 .1 .0 ≡ cursorOf m)
+  Said m zs = (runLeft m (stateOf w0 (m .quantiser) (x6 .now) (x7 .now) (x8 .now) (zs .0) (zs .1 .0) (zs .1 .1 .0) (zs .1 .1 .1 .0) (zs .1 .1 .1 .1 .0)) (zs .1 .1 .1 .1 .1 .0) ≡ listLeft (stateOf w0 w1 (x6 .now) (x7 .now) (x8 .now) (x0 .now) (x1 .now) (x2 .now) (x3 .now) (x4 .now)) (x10 .now) (x9 .now) w2 (x5 .now)) × (zs .1 .1 .1 .1 .1 .1 .1 .1 .1 .1 .1 .0 ≡ cursorOf m)
 
   -- the result, and its machine value
   abbrev res : Report → Lasts → RunMoved

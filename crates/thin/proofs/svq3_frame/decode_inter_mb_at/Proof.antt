@@ -46,7 +46,7 @@ use denote.Exit.{yes}
 use denote.Enum.Laws as EL
 use Rattle.state.specs.State.{State}
 use Rattle.macroblock.specs.Decode.{decoded}
-use Rattle.macroblock.specs.Entry.{stateOf, quantiserBy, left, cursorBy}
+use Rattle.macroblock.specs.Entry.{stateOf, quantiserBy, mbLeft, cursorBy}
 use Rattle.macroblock.proofs.Laws.{moved-quantiser}
 use Rattle.state.specs.declared.Cursor.{Cursor}
 use Rattle.state.proofs.Cursor as T
@@ -139,7 +139,7 @@ module _ {M : Type 1} (𝓤 : URA M) (H : Heap 𝓤) (A : Atoms 𝓤) (W : Given
 
   -- what the callee ensures
   abbrev Said : MbAnswer → Lasts → Type 0
-  Said m zs = left m (stateOf w0 (quantiserBy (h .quantiser) m) (x6 .now) (x7 .now) (x8 .now) (zs .0) (zs .1 .0) (zs .1 .1 .0) (zs .1 .1 .1 .0) (zs .1 .1 .1 .1 .0)) (zs .1 .1 .1 .1 .1 .0) ≡ decoded (stateOf w0 (h .quantiser) (x6 .now) (x7 .now) (x8 .now) (x0 .now) (x1 .now) (x2 .now) (x3 .now) (x4 .now)) w1 (x9 .now) (h .place) (x5 .now) w2
+  Said m zs = mbLeft m (stateOf w0 (quantiserBy (h .quantiser) m) (x6 .now) (x7 .now) (x8 .now) (zs .0) (zs .1 .0) (zs .1 .1 .0) (zs .1 .1 .1 .0) (zs .1 .1 .1 .1 .0)) (zs .1 .1 .1 .1 .1 .0) ≡ decoded (stateOf w0 (h .quantiser) (x6 .now) (x7 .now) (x8 .now) (x0 .now) (x1 .now) (x2 .now) (x3 .now) (x4 .now)) w1 (x9 .now) (h .place) (x5 .now) w2
 
   -- the second call, on the answer m, whose machine value is u
   abbrev AArg : Type 0
@@ -169,7 +169,7 @@ module _ {M : Type 1} (𝓤 : URA M) (H : Heap 𝓤) (A : Atoms 𝓤) (W : Given
   exits : (m : MbAnswer) (u : Val) (zs : Lasts) (n : Cursor) → Said m zs → Moved m n → length (zs .0) ≡ length (x0 .now) → length (zs .1 .0) ≡ length (x1 .now) → length (zs .1 .1 .0) ≡ length (x2 .now) → length (zs .1 .1 .1 .0) ≡ length (x3 .now) → length (zs .1 .1 .1 .1 .0) ≡ length (x4 .now) → length (zs .1 .1 .1 .1 .1 .0) ≡ length (x5 .now) → Is V0.the-row w0 (vw0 ∷ []) → Is V1.the-row w1 (vw1 ∷ []) → Is usize w2 (vw2 ∷ []) → Is E.the-row m (u ∷ []) → ent 𝓤 (⋆ 𝓤 H A (‵ (fobs γ (T.the-row .coded .code n)) ∷ ‵ (fbor κ (Body (mem T.the-row) b o γ)) ∷ ‵ (flft κ q) ∷ (‵ (flft κ0 q0) ⊛ ‵ (flft κ1 q1) ⊛ ‵ (flft κ2 q2) ⊛ ‵ (flft κ3 q3) ⊛ ‵ (flft κ4 q4) ⊛ ‵ (flft κ5 q5) ⊛ ‵ (flft κ6 q6) ⊛ ‵ (flft κ7 q7) ⊛ ‵ (flft κ8 q8) ⊛ ‵ (flft κ9 q9) ⊛ ‵ ftrue) ∷ ‵ (finally u8 (x0 .name) (zs .0)) ∷ ‵ (finally u8 (x1 .name) (zs .1 .0)) ∷ ‵ (finally u8 (x2 .name) (zs .1 .1 .0)) ∷ ‵ (finally i32 (x3 .name) (zs .1 .1 .1 .0)) ∷ ‵ (finally u8 (x4 .name) (zs .1 .1 .1 .1 .0)) ∷ ‵ (finally u8 (x5 .name) (zs .1 .1 .1 .1 .1 .0)) ∷ ‵ (ShrSlice (named 6) κ6 u8 .own x6 (v x6 ∷ [])) ∷ ‵ (ShrSlice (named 7) κ7 u8 .own x7 (v x7 ∷ [])) ∷ ‵ (ShrSlice (named 8) κ8 u8 .own x8 (v x8 ∷ [])) ∷ ‵ (ShrSlice (named 9) κ9 u8 .own x9 (v x9 ∷ [])) ∷ [])) (Post u)
   exits m u zs n e e′ l0 l1 l2 l3 l4 l5 isw0 isw1 isw2 is =
       qed W (‵ (fobs γ (T.the-row .coded .code n)) ∷ ‵ (fbor κ (Body (mem T.the-row) b o γ)) ∷ ‵ (flft κ q) ∷ (‵ (flft κ0 q0) ⊛ ‵ (flft κ1 q1) ⊛ ‵ (flft κ2 q2) ⊛ ‵ (flft κ3 q3) ⊛ ‵ (flft κ4 q4) ⊛ ‵ (flft κ5 q5) ⊛ ‵ (flft κ6 q6) ⊛ ‵ (flft κ7 q7) ⊛ ‵ (flft κ8 q8) ⊛ ‵ (flft κ9 q9) ⊛ ‵ ftrue) ∷ ‵ (finally u8 (x0 .name) (zs .0)) ∷ ‵ (finally u8 (x1 .name) (zs .1 .0)) ∷ ‵ (finally u8 (x2 .name) (zs .1 .1 .0)) ∷ ‵ (finally i32 (x3 .name) (zs .1 .1 .1 .0)) ∷ ‵ (finally u8 (x4 .name) (zs .1 .1 .1 .1 .0)) ∷ ‵ (finally u8 (x5 .name) (zs .1 .1 .1 .1 .1 .0)) ∷ ‵ (ShrSlice (named 6) κ6 u8 .own x6 (v x6 ∷ [])) ∷ ‵ (ShrSlice (named 7) κ7 u8 .own x7 (v x7 ∷ [])) ∷ ‵ (ShrSlice (named 8) κ8 u8 .own x8 (v x8 ∷ [])) ∷ ‵ (ShrSlice (named 9) κ9 u8 .own x9 (v x9 ∷ [])) ∷ []) ∵
-      suffices ! _ (ends-at 𝓤 H A decode-inter-mb-at.ended stayed (decode-inter-mb-at.clauses 𝓤 H A at-mem run) W (((κ0, (κ1, (κ2, (κ3, (κ4, (κ5, (κ6, (κ7, (κ8, (κ9, (κ, tt))))))))))), (q0, (q1, (q2, (q3, (q4, (q5, (q6, (q7, (q8, (q9, (q, tt))))))))))), tt, a, vals), tt) u m (zs .0, (zs .1 .0, (zs .1 .1 .0, (zs .1 .1 .1 .0, (zs .1 .1 .1 .1 .0, (zs .1 .1 .1 .1 .1 .0, (tt, (tt, (tt, (tt, (n, (tt, (tt, (tt, tt)))))))))))))) (l0, (l1, (l2, (l3, (l4, (l5, (tt, (tt, (tt, (tt, (tt, (tt, (tt, (tt, tt))))))))))))))) $ says ! (ap (λ (c : ℕ). left m (stateOf w0 c (x6 .now) (x7 .now) (x8 .now) (zs .0) (zs .1 .0) (zs .1 .1 .0) (zs .1 .1 .1 .0) (zs .1 .1 .1 .1 .0)) (zs .1 .1 .1 .1 .1 .0)) (moved-quantiser (h .place) (h .quantiser) m n e′) ∙ e, e′) $
+      suffices ! _ (ends-at 𝓤 H A decode-inter-mb-at.ended stayed (decode-inter-mb-at.clauses 𝓤 H A at-mem run) W (((κ0, (κ1, (κ2, (κ3, (κ4, (κ5, (κ6, (κ7, (κ8, (κ9, (κ, tt))))))))))), (q0, (q1, (q2, (q3, (q4, (q5, (q6, (q7, (q8, (q9, (q, tt))))))))))), tt, a, vals), tt) u m (zs .0, (zs .1 .0, (zs .1 .1 .0, (zs .1 .1 .1 .0, (zs .1 .1 .1 .1 .0, (zs .1 .1 .1 .1 .1 .0, (tt, (tt, (tt, (tt, (n, (tt, (tt, (tt, tt)))))))))))))) (l0, (l1, (l2, (l3, (l4, (l5, (tt, (tt, (tt, (tt, (tt, (tt, (tt, (tt, tt))))))))))))))) $ says ! (ap (λ (c : ℕ). mbLeft m (stateOf w0 c (x6 .now) (x7 .now) (x8 .now) (zs .0) (zs .1 .0) (zs .1 .1 .0) (zs .1 .1 .1 .0) (zs .1 .1 .1 .1 .0)) (zs .1 .1 .1 .1 .1 .0)) (moved-quantiser (h .place) (h .quantiser) m n e′) ∙ e, e′) $
       move ! (3 ∷ []) $ split ! $ move ! (1 ∷ []) $ split ! $ move ! (1 ∷ []) $ split ! $ move ! (1 ∷ []) $ split ! $ move ! (1 ∷ []) $ split ! $ move ! (1 ∷ []) $ split ! $ move ! (1 ∷ []) $ split ! $ move ! (1 ∷ []) $ split ! $ move ! (1 ∷ []) $ split ! $ move ! (1 ∷ []) $ split ! $ move ! (13 ∷ 1 ∷ []) $ join ! $ move ! (1 ∷ 0 ∷ []) $ join ! $ move ! (1 ∷ 0 ∷ []) $ join ! $ move ! (1 ∷ 0 ∷ []) $ join ! $ move ! (1 ∷ 0 ∷ []) $ join ! $ move ! (1 ∷ 0 ∷ []) $ join ! $ move ! (1 ∷ 0 ∷ []) $ join ! $ move ! (1 ∷ 0 ∷ []) $ join ! $ move ! (1 ∷ 0 ∷ []) $ join ! $ move ! (1 ∷ 0 ∷ []) $ join ! $ move ! (1 ∷ 0 ∷ []) $ join ! $ frame ! $
       nothing ! $ owned ! usize (Is usize) (uint-makes 𝓤 H A W w64) w2 _ isw2 $ fjoin ! $ owned ! V1.the-row (Is V1.the-row) (LL.makes V1.the-type V1′.the-plain 𝓤 H A) w1 _ isw1 $ fjoin ! $ owned ! V0.the-row (Is V0.the-row) (LL.makes V0.the-type V0′.the-plain 𝓤 H A) w0 _ isw0 $ fjoin ! $ move ! (1 ∷ 2 ∷ []) $ feqI ! (List Val) (vptr b o ∷ []) (vptr b o ∷ []) refl $ fjoin3 ! $ fjoin ! $ move ! (10 ∷ 0 ∷ []) $ fjoin ! $ move ! (9 ∷ 0 ∷ []) $ fjoin ! $ move ! (8 ∷ 0 ∷ []) $ fjoin ! $ move ! (7 ∷ 0 ∷ []) $ fjoin ! $ move ! (6 ∷ 0 ∷ []) $ fjoin ! $ move ! (5 ∷ 0 ∷ []) $ fjoin ! $ move ! (4 ∷ 0 ∷ []) $ fjoin ! $ move ! (3 ∷ 0 ∷ []) $ fjoin ! $ move ! (2 ∷ 0 ∷ []) $ fjoin ! $ move ! (1 ∷ 0 ∷ []) $ fjoin ! $ owned ! E.the-row (Is E.the-row) (EL.makes E.the-type E′.the-plain 𝓤 H A) m _ is $ move ! (1 ∷ 0 ∷ []) $ done !
 
