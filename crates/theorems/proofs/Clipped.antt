@@ -59,22 +59,22 @@ unfoldable pub clippedRun : List ℕ → Ran
 clippedRun bits = ranList one (0 ∷ 0 ∷ 1 ∷ []) bits 0 (replicate 2089 0)
 
 -- both: the call is accepted, and its record is 0000010001feffffff0f000005
-unfoldable pub clippedBytes : List ℕ
+unfoldable clippedBytes : List ℕ
 clippedBytes = 0 ∷ 0 ∷ 1 ∷ 0 ∷ 1 ∷ 254 ∷ 255 ∷ 255 ∷ 255 ∷ 15 ∷ 0 ∷ 0 ∷ 5 ∷ []
 
 -- the transcript, the number of consumed bits, and bit 56 of them
-pub record Left (bits : List ℕ) (last : Bool) : Type 0 where
-  pub bytes : transcriptOf (clippedRun bits) ≡ clippedBytes
-  pub taken : length (consumed bits 0 (clippedRun bits)) ≡ 61
-  pub last-bit : getD (consumed bits 0 (clippedRun bits)) 56 false ≡ last
+record Result (bits : List ℕ) (last : Bool) : Type 0 where
+  bytes : transcriptOf (clippedRun bits) ≡ clippedBytes
+  taken : length (consumed bits 0 (clippedRun bits)) ≡ 61
+  last-bit : getD (consumed bits 0 (clippedRun bits)) 56 false ≡ last
 
-left-less : Left less false
+result-less : Result less false
 unfolding clippedBytes one less more clippedRun ranList ran ranFrom ended withCall transcriptOf decoded outcomeOf askCall askStart askQuantiser askPlace placeIn askRest gridRight planesRight stateRight referenceThere callRight calls callsIn callIn untilEnd if_then_else_ floorZ satZ overZ clampZ minZ maxZ medianZ bitList codeFrom code signedOf signedCode groups number lowThen readNumber sent signedNumber patterns pattern quadrantCoded partitionWidth partitionHeight numMotionVectors offsetX offsetY precision cellAt nearAt leftOf aboveOf aboveLeftOf medianOf combined predicted heldIn predictor roundToSixths convertPredictor summed scaled storedPart clippedPart noVectors noLevels itemCoded readLists writeLists readItems signedNumbers itemBytes itemsBytes restBytes recordBytes predictorAt moved readVectors quantiserIn readQuantiser recordOf atFirst readResidual readCoded readMacroblock consumed
-left-less = record { bytes = refl; taken = refl; last-bit = refl }
+result-less = record { bytes = refl; taken = refl; last-bit = refl }
 
-left-more : Left more true
+result-more : Result more true
 unfolding clippedBytes one less more clippedRun ranList ran ranFrom ended withCall transcriptOf decoded outcomeOf askCall askStart askQuantiser askPlace placeIn askRest gridRight planesRight stateRight referenceThere callRight calls callsIn callIn untilEnd if_then_else_ floorZ satZ overZ clampZ minZ maxZ medianZ bitList codeFrom code signedOf signedCode groups number lowThen readNumber sent signedNumber patterns pattern quadrantCoded partitionWidth partitionHeight numMotionVectors offsetX offsetY precision cellAt nearAt leftOf aboveOf aboveLeftOf medianOf combined predicted heldIn predictor roundToSixths convertPredictor summed scaled storedPart clippedPart noVectors noLevels itemCoded readLists writeLists readItems signedNumbers itemBytes itemsBytes restBytes recordBytes predictorAt moved readVectors quantiserIn readQuantiser recordOf atFirst readResidual readCoded readMacroblock consumed
-left-more = record { bytes = refl; taken = refl; last-bit = refl }
+result-more = record { bytes = refl; taken = refl; last-bit = refl }
 
 pub clipped_runs : (transcriptOf (clippedRun less) ≡ transcriptOf (clippedRun more)) × (consumed less 0 (clippedRun less) ≡ consumed more 0 (clippedRun more) → ⊥)
-clipped_runs = (left-less .bytes ∙ sym (left-more .bytes), λ e. false≢true (sym (left-less .last-bit) ∙ ap (λ (l : List Bool). getD l 56 false) e ∙ left-more .last-bit))
+clipped_runs = (result-less .bytes ∙ sym (result-more .bytes), λ e. false≢true (sym (result-less .last-bit) ∙ ap (λ (l : List Bool). getD l 56 false) e ∙ result-more .last-bit))

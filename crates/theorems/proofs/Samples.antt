@@ -49,15 +49,15 @@ use Rattle.theorems.proofs.Painted.{among-larger, place-fits, if-at, co
 use Rattle.theorems.proofs.Macroblocks.{SquareHolds, PartHolds, part-in, moved-outside, moved-at, luma-at, chroma-at}
 
 -- ---- an accepted call has read a record, and leaves what this does
-pub record Reading (s : State) (call : Call) (bits : List ℕ) (place : ℕ) (after : State) : Type 0 where
-  pub read : Record
-  pub count : ℕ
-  pub is : readMacroblock (contextOf s) call (drop place (bitList bits)) ≡ got read count
-  pub leaves : after ≡ applied s read
-  pub ready : Ready s call
-  pub sized : AllSized (s .cols) (s .rows) (lengthsOf s)
+record Reading (s : State) (call : Call) (bits : List ℕ) (place : ℕ) (after : State) : Type 0 where
+  read : Record
+  count : ℕ
+  is : readMacroblock (contextOf s) call (drop place (bitList bits)) ≡ got read count
+  leaves : after ≡ applied s read
+  ready : Ready s call
+  sized : AllSized (s .cols) (s .rows) (lengthsOf s)
 
-pub accepted-reads : (s : State) (call : Call) (bits : List ℕ) (place : ℕ) (t : List ℕ) (fill : ℕ) {report : MbReport} → decoded s call bits place t fill .answer ≡ Accepted report
+accepted-reads : (s : State) (call : Call) (bits : List ℕ) (place : ℕ) (t : List ℕ) (fill : ℕ) {report : MbReport} → decoded s call bits place t fill .answer ≡ Accepted report
     → Reading s call bits place (decoded s call bits place t fill .state)
 unfolding outcomeOf askReplay
 accepted-reads s call bits place t fill a = go (kind s call bits place t fill)

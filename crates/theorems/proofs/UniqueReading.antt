@@ -21,7 +21,7 @@ use Rattle.theorems.specs.Unique.{SameReading, OneUnclipped}
 use Rattle.theorems.proofs.Traces.{Trace, trace, no-call}
 use Rattle.theorems.proofs.Paths.{path-bounded, same-records, same-bits, path-ranged, same-bytes}
 
-pub run-trace : (s : State) (calls : List Call) (bits : List ℕ) (place : ℕ) (t : List ℕ) → Trace s bits place t 0 (ran s calls bits place t)
+run-trace : (s : State) (calls : List Call) (bits : List ℕ) (place : ℕ) (t : List ℕ) → Trace s bits place t 0 (ran s calls bits place t)
 unfolding ran
 run-trace s [] bits place t = no-call s bits place t 0 _
 run-trace s (call ∷ calls) bits place t = trace s (call ∷ calls) bits place t 0
@@ -40,7 +40,7 @@ module _ {s : State} {bits : List ℕ} {place : ℕ} {t : List ℕ} {r : Ran} (x
   unfolding transcriptOf
   transcript-is = x .bytes
 
-  pub consumed-is : consumed bits place r ≡ take (x .taken) (drop place (bitList bits))
+  consumed-is : consumed bits place r ≡ take (x .taken) (drop place (bitList bits))
   unfolding consumed
   consumed-is = let e : r .place - place ≡ x .taken = omega (arith, x .moved) in rw e
 
