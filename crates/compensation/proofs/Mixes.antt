@@ -9,19 +9,19 @@ use Rattle.ints.specs.Z.{if_then_else_}
 use Rattle.picture.specs.Painted.{painted}
 use Rattle.picture.proofs.Laws.{painted-values}
 use Rattle.compensation.specs.Formula.{mean, third, along, third2d, formula}
-use Rattle.compensation.specs.InnerKernel.{weighed, oddBeside, mixedTaps, mixedAt, mixedRow, mixedBlock, MixFor, way, mixes, mixCode, mixSaid, fourAt, fourRow, fourBlock}
+use Rattle.compensation.specs.InnerKernel.{weighed, raised, mixedTaps, mixedAt, mixedRow, mixedBlock, MixFor, way, mixes, mixCode, mixSaid, fourAt, fourRow, fourBlock}
 use Rattle.compensation.specs.declared.kernel.Mix.{Mix}
 
 -- ---- taps that stand for their means
-twice : (a b : ℕ) → oddBeside 1 a b + oddBeside 1 b a ≡ 2 * mean a b
-unfolding oddBeside
+twice : (a b : ℕ) → raised 1 a b + raised 1 b a ≡ 2 * mean a b
+unfolding raised
 twice a b = omega arith
 
-four-two : (a b c d : ℕ) → weighed 4 4 2 2 (oddBeside 1 a b) (oddBeside 1 b a) (oddBeside 1 c d) (oddBeside 1 d c) ≡ third (mean a b) (mean c d)
+four-two : (a b c d : ℕ) → weighed 4 4 2 2 (raised 1 a b) (raised 1 b a) (raised 1 c d) (raised 1 d c) ≡ third (mean a b) (mean c d)
 unfolding weighed
 four-two a b c d = omega (arith, twice a b, twice c d)
 
-two-four : (a b c d : ℕ) → weighed 2 2 4 4 (oddBeside 1 a b) (oddBeside 1 b a) (oddBeside 1 c d) (oddBeside 1 d c) ≡ third (mean c d) (mean a b)
+two-four : (a b c d : ℕ) → weighed 2 2 4 4 (raised 1 a b) (raised 1 b a) (raised 1 c d) (raised 1 d c) ≡ third (mean c d) (mean a b)
 unfolding weighed
 two-four a b c d = omega (arith, twice a b, twice c d)
 
@@ -77,7 +77,7 @@ by-row below px = phases (Said below px) (said-as below refl (λ a b c d. refl))
 
 -- the code of two phases says their mix
 pub said-for : (below px : ℕ) → px < 6 → (py : ℕ) → py < 6 → Said below px py
-unfolding formula along third2d weighed oddBeside mixedTaps mixSaid mixCode mixes way if_then_else_
+unfolding formula along third2d weighed raised mixedTaps mixSaid mixCode mixes way if_then_else_
 said-for below =
     phases (λ px. (py : ℕ) → py < 6 → Said below px py)
     (λ m py h. said-as below refl (λ a b c d. refl) (m py h))

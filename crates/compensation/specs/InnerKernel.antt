@@ -17,13 +17,13 @@ use Rattle.compensation.specs.declared.kernel.Mix.{Mix}
 unfoldable pub weighed : ℕ → ℕ → ℕ → ℕ → ℕ → ℕ → ℕ → ℕ → ℕ
 weighed wa wb wc wd a b c d = (wa * a + wb * b + wc * c + wd * d + 6) / 12
 
--- with m = 1 an even a beside an odd b gets 1 more: so two taps, each beside the other, sum up to twice their mean, rounded up; with m = 0 a itself
-unfoldable pub oddBeside : ℕ → ℕ → ℕ → ℕ
-oddBeside m a b = a + m * (b % 2 - a % 2)
+-- with m = 1 an even a beside an odd b gets 1 more: so two taps, each raised by the other, sum up to twice their mean, rounded up; with m = 0 a itself
+unfoldable pub raised : ℕ → ℕ → ℕ → ℕ
+raised m a b = a + m * (b % 2 - a % 2)
 
 -- two pairs of taps, weighed
 unfoldable pub mixedTaps : Mix → ℕ → ℕ → ℕ → ℕ → ℕ
-mixedTaps m a b c d = let up = oddBeside (m .means) in weighed (m .wa) (m .wb) (m .wc) (m .wd) (up a b) (up b a) (up c d) (up d c)
+mixedTaps m a b c d = let up = raised (m .means) in weighed (m .wa) (m .wb) (m .wc) (m .wd) (up a b) (up b a) (up c d) (up d c)
 
 -- the sample whose first tap is i
 unfoldable pub mixedAt : Mix → List ℕ → ℕ → ℕ

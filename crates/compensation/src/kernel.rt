@@ -6,7 +6,7 @@ ghost use Rattle.ints.specs.Z.{if_then_else_};
 ghost use Rattle.picture.specs.InnerBlock.{BlockIn, blockPainted};
 ghost use Rattle.picture.specs.InnerRows.{row};
 ghost use Rattle.compensation.specs.Formula.{formula};
-ghost use Rattle.compensation.specs.InnerKernel.{weighed, oddBeside, mixedTaps, mixedRow, mixedBlock, SumsTo12, FromSquare, MixFor, way, mixes, mixCode, fourBlock, extra};
+ghost use Rattle.compensation.specs.InnerKernel.{weighed, raised, mixedTaps, mixedRow, mixedBlock, SumsTo12, FromSquare, MixFor, way, mixes, mixCode, fourBlock, extra};
 ghost use Rattle.compensation.specs.InnerBlock.{Span};
 use picture::Block;
 use picture::rows::store_row;
@@ -32,11 +32,11 @@ fn weigh(a: u8, b: u8, c: u8, d: u8, wa: u16, wb: u16, wc: u16, wd: u16) -> u8
     ((wa * (a as u16) + wb * (b as u16) + wc * (c as u16) + wd * (d as u16) + 6) / 12) as u8
 }
 
-// With m = 1: an even a beside an odd b gets 1 more. Of two taps of which just one is odd, each beside the other, the even one gets it:
+// With m = 1: an even a beside an odd b gets 1 more. Of two taps of which just one is odd, each raised by the other, the even one gets it:
 // their sum is then even, and half of it is their mean, rounded up. With m = 0: a as it is.
-fn odd_beside(m: u8, a: u8, b: u8) -> u8
+fn raise(m: u8, a: u8, b: u8) -> u8
     requires { ⌜ m ≤ 1 ⌝ }
-    ensures { λ r. ⌜ r ≡ oddBeside m a b ⌝ }
+    ensures { λ r. ⌜ r ≡ raised m a b ⌝ }
 {
     a | (b & m)
 }
@@ -47,10 +47,10 @@ pub fn mix_taps(mix: Mix, a: u8, b: u8, c: u8, d: u8) -> u8
 {
     let m = mix.means;
     weigh(
-        odd_beside(m, a, b),
-        odd_beside(m, b, a),
-        odd_beside(m, c, d),
-        odd_beside(m, d, c),
+        raise(m, a, b),
+        raise(m, b, a),
+        raise(m, c, d),
+        raise(m, d, c),
         mix.wa,
         mix.wb,
         mix.wc,

@@ -7,7 +7,7 @@ use Rattle.compensation.proofs.kernel.mix_taps.Tie as tie
 
 returns : tie.Need-returns
 unfolding mixedTaps
-returns c = rw (c .weigh .ensures, c .before .odd-beside4 .ensures, c .before .before .odd-beside3 .ensures, c .before .before .before .odd-beside2 .ensures, c .before .before .before .before .odd-beside .ensures) refl
+returns c = rw (c .weigh .ensures, c .before .raise4 .ensures, c .before .before .raise3 .ensures, c .before .before .before .raise2 .ensures, c .before .before .before .before .raise .ensures) refl
 
 pub mix-taps-spec : {M : Type 1} → statement M
 mix-taps-spec =
