@@ -30,7 +30,7 @@ use Rattle.levels.specs.Items.{itemStart, itemCount, itemPlace}
 use Rattle.record.specs.Parse.{field, readSigneds, parseItem}
 use Rattle.levels.specs.InnerAnswers.{Left}
 use Rattle.levels.proofs.Turns.{when-true, when-false}
-use Rattle.levels.proofs.ListKinds.{start-most, start-in, is-luma, is-dc, is-ac}
+use Rattle.levels.proofs.ListKinds.{start-most, start-in}
 use Rattle.record.proofs.Fields.{signeds-format}
 use Rattle.levels.proofs.ItemAnswers.{left-end, left-refused}
 
@@ -128,26 +128,12 @@ module _ (i at : ℕ) (ls : List ℤ) (s : List ℕ) where
           ap (λ (x : List ℤ). got x n) (placed ls (itemPlace i) (itemStart i) zs (start-most i) (omega (arith, l, start-in i)))
       go (refused r) e = refl
 
-  -- a list with no place before its start
-  whole : (count : ℕ) → itemStart i ≡ 0 → itemCount i ≡ count → readSigneds count s ≡ parseItem i s
-  unfolding parseItem
-  whole count b c =
-      let z : count - 0 ≡ count = omega arith in
-      sym ((λ j. mapGot (λ zs. zeros (b j) ++ zs) (readSigneds (c j - b j) s)) ∙ ap (λ (n : ℕ). mapGot (λ zs. zeros 0 ++ zs) (readSigneds n s)) z ∙ same (readSigneds count s))
-    where
-      same : (g : Got (List ℤ)) → mapGot (λ zs. zeros 0 ++ zs) g ≡ g
-      same (got zs n) = refl
-      same (refused r) = refl
+  module _ (place start count : ℕ) (answer : ListAnswer) (left : List ℤ) (p : place ≡ itemPlace i) (b : start ≡ itemStart i) (c : count ≡ itemCount i) where
+    -- its numbers stored one after another
+    pub item-stored : Left at (mapGot (sets (set ls place (pos 0)) (place + start)) (readSigneds (count - start) s)) answer left → Left at (mapGot (sets ls (itemPlace i)) (parseItem i s)) answer left
+    item-stored l = rw (← parsed, ← p, ← b, ← c) l
 
-  module _ (place : ℕ) (answer : ListAnswer) (left : List ℤ) (p : place ≡ itemPlace i) where
-    whole-stored : (count : ℕ) → itemStart i ≡ 0 → itemCount i ≡ count → Left at (mapGot (sets ls place) (readSigneds count s)) answer left → Left at (mapGot (sets ls (itemPlace i)) (parseItem i s)) answer left
-    whole-stored count b c = subst (λ (g : Got (List ℤ)). Left at g answer left) (λ j. mapGot (sets ls (p j)) (whole count b c j))
-
-    pub luma-stored : i < 16 → Left at (mapGot (sets ls place) (readSigneds 16 s)) answer left → Left at (mapGot (sets ls (itemPlace i)) (parseItem i s)) answer left
-    luma-stored h = let a = is-luma i h in whole-stored 16 (a .start) (a .count)
-
-    pub dc-stored : 16 ≤ i → i < 18 → Left at (mapGot (sets ls place) (readSigneds 4 s)) answer left → Left at (mapGot (sets ls (itemPlace i)) (parseItem i s)) answer left
-    dc-stored h k = let a = is-dc i h k in whole-stored 4 (a .start) (a .count)
-
-    pub ac-stored : 18 ≤ i → Left at (mapGot (sets (set ls place (pos 0)) (place + 1)) (readSigneds 15 s)) answer left → Left at (mapGot (sets ls (itemPlace i)) (parseItem i s)) answer left
-    ac-stored h l = let a = is-ac i h in rw (← parsed, a .start, a .count, ← p) l
+    -- and all at once
+    pub item-left : Left at (mapGot (sets ls place) (mapGot (λ zs. zeros start ++ zs) (readSigneds (count - start) s))) answer left → Left at (mapGot (sets ls (itemPlace i)) (parseItem i s)) answer left
+    unfolding parseItem
+    item-left l = rw (← p, ← b, ← c) l

@@ -20,19 +20,19 @@ use Rattle.number.proofs.Numbers.{lt-or-le, one-group}
 use Rattle.record.specs.Write.{signedNumbers}
 use Rattle.levels.proofs.Sets.{sets-append}
 use Rattle.transcript.specs.Written.{Written}
-use Rattle.transcript.specs.InnerSent.{heldOf, sentShort, allShort, Held}
+use Rattle.transcript.specs.InnerSent.{heldOf, sentShort, shortSent, Held}
 
 -- ---- the test
 pub both : (a b : Bool) → (a && b) ≡ true → (a ≡ true) × (b ≡ true)
 both true b e = (refl, e)
 both false b e = absurd (let z : _≡_ {A = ℕ} 0 1 = cc in omega arith)
 
-pub short-each : (t : List ℕ) (n : ℕ) → allShort t n ≡ true → (k : ℕ) → k < n → (64 ≤ getD t k 0) × (getD t k 0 < 192)
-unfolding allShort
+pub short-each : (t : List ℕ) (n : ℕ) → shortSent t n ≡ true → (k : ℕ) → k < n → (64 ≤ getD t k 0) × (getD t k 0 < 192)
+unfolding shortSent
 short-each t zero e k h = absurd (omega arith)
 short-each t (suc n) e k h =
-    let a = both (allShort t n && leb 64 (getD t n 0)) (ltb (getD t n 0) 192) e in
-    let b = both (allShort t n) (leb 64 (getD t n 0)) (a .0) in
+    let a = both (shortSent t n && leb 64 (getD t n 0)) (ltb (getD t n 0) 192) e in
+    let b = both (shortSent t n) (leb 64 (getD t n 0)) (a .0) in
     ⊎-elim
     (λ (i : k < n). short-each t n (b .0) k i)
     (λ (i : n ≤ k).
@@ -112,7 +112,7 @@ shorts (z ∷ zs) (b ∷ bs) e h =
     rw (one-byte z b (o .0) (o .1), shorts zs bs (omega arith) (λ k i. h (suc k) (omega arith)))
 
 -- NUMBERS FROM -64 TO 63 ARE THE LIST OF WHAT THEY ARE SENT AS
-module _ (l : List ℤ) (first n : ℕ) (t : List ℕ) (h : first + n ≤ length l) (m : n ≤ 16) (s : Held l first n t) (e : allShort t n ≡ true) where
+module _ (l : List ℤ) (first n : ℕ) (t : List ℕ) (h : first + n ≤ length l) (m : n ≤ 16) (s : Held l first n t) (e : shortSent t n ≡ true) where
   pub short-numbers : signedNumbers (take n (drop first l)) ≡ take n (map sentShort t)
   short-numbers =
       let a : length (take n (drop first l)) ≡ n = length-take-le n (drop first l) (omega (arith, length-drop first l)) in

@@ -19,9 +19,9 @@ unfoldable pub sentShort : ℕ → ℕ
 sentShort held = if ltb (2 * (held % 128)) 128 then 2 * (held % 128) else 255 - 2 * (held % 128)
 
 -- each of the first n is `heldOf` of a short number
-unfoldable pub allShort : List ℕ → ℕ → Bool
-allShort t zero = true
-allShort t (suc n) = (allShort t n && leb 64 (getD t n 0)) && ltb (getD t n 0) 192
+unfoldable pub shortSent : List ℕ → ℕ → Bool
+shortSent t zero = true
+shortSent t (suc n) = (shortSent t n && leb 64 (getD t n 0)) && ltb (getD t n 0) 192
 
 -- t has `heldOf` of n numbers from `first` on
 pub record Held (l : List ℤ) (first n : ℕ) (t : List ℕ) : Type 0 where

@@ -1,20 +1,21 @@
 // A record is read back from the bytes of a transcript.
 ghost use mathlib.Core.Path.{_≡_};
 ghost use mathlib.Core.Bool.{true};
-ghost use mathlib.Core.List.{List};
+ghost use mathlib.Core.List.{List, _++_};
 ghost use Prim.Native.Nat.{_+_, _≤_, _<_};
 ghost use lib.IntN.{ℤ};
-ghost use lib.ListN.{length, take, drop};
+ghost use lib.ListN.{length, drop};
 ghost use lib.Seq.{sets};
 ghost use Rattle.refusal.specs.Got.{mapGot};
 ghost use Rattle.number.specs.InnerNumber.{numberAnswer};
 ghost use Rattle.record.specs.Record.{noVectors};
-ghost use Rattle.levels.specs.Items.{noLevels, itemPlace};
+ghost use Rattle.levels.specs.Levels.{zeros};
+ghost use Rattle.levels.specs.Items.{noLevels, itemStart, itemCount, itemPlace};
 ghost use Rattle.record.specs.Parse.{field, readSigneds, parseItem, parseItems, parseResidual, parseMotion};
 ghost use Rattle.levels.specs.InnerAnswers.{Left};
 ghost use Rattle.transcript.specs.InnerParsing.{Parsing, placeAnswer};
 ghost use Rattle.transcript.specs.InnerPlace.{parsePlace};
-ghost use Rattle.transcript.specs.InnerReceived.{allShort, shortAt, Received};
+ghost use Rattle.transcript.specs.InnerReceived.{shortReceived, shortAt, Received};
 use levels::items::group_end;
 use levels::items::item_coded;
 use levels::items::item_place;
@@ -116,86 +117,99 @@ fn wide(x: u8) -> u32
     x as u32
 }
 
-// Whether each of `count` bytes is a short number: one byte by itself.
-fn all_short(bytes: &[u8], at: usize, count: usize) -> bool
-    requires { ⌜ at + count ≤ length (now bytes) ⌝ }
-    ensures { λ r. ⌜ r ≡ allShort (now (bytes .entry)) at count ⌝ }
+// Whether each of sixteen bytes is a short number: one byte by itself.
+fn all_short(bytes: &[u8], at: usize) -> bool
+    requires { ⌜ at + 16 ≤ length (now bytes) ⌝ }
+    ensures { λ r. ⌜ r ≡ shortReceived (now (bytes .entry)) at 16 ⌝ }
 {
     let mut short = true;
     let mut i = 0;
-    while i < count {
+    while i < 16 {
         short = short & (bytes[at + i] < 128);
         i += 1;
     }
     short
 }
 
-// Whether there are `count` bytes and each is a short number.
-fn short_at(bytes: &[u8], at: usize, count: usize) -> bool
-    ensures { λ r. ⌜ r ≡ shortAt (now (bytes .entry)) at count ⌝ }
+// Whether there are sixteen bytes, the first of them `ahead` before `at`, and each is a short number.
+fn short_at(bytes: &[u8], at: usize, ahead: usize) -> bool
+    ensures { λ r. ⌜ r ≡ shortAt (now (bytes .entry)) at ahead ⌝ }
 {
-    if bytes.len() < count {
+    if at < ahead {
         return false;
     }
-    if bytes.len() - count < at {
+    if bytes.len() < 16 {
         return false;
     }
-    all_short(bytes, at, count)
+    if bytes.len() - 16 < at - ahead {
+        return false;
+    }
+    all_short(bytes, at - ahead)
 }
 
-// What `count` bytes stand for, each by itself: the first of sixteen.
-fn take_received(bytes: &[u8], at: usize, count: usize) -> [i32; 16]
-    requires { ⌜ (count ≤ 16) × (at + count ≤ length (now bytes)) ⌝ }
-    ensures { λ r. ⌜ Received (now (bytes .entry)) at count r ⌝ }
+// What sixteen bytes stand for, each by itself.
+fn take_received(bytes: &[u8], at: usize) -> [i32; 16]
+    requires { ⌜ at + 16 ≤ length (now bytes) ⌝ }
+    ensures { λ r. ⌜ Received (now (bytes .entry)) at 16 r ⌝ }
 {
     let mut t = [0i32; 16];
     let mut i = 0;
-    while i < count {
+    while i < 16 {
         t[i] = received_of(wide(bytes[at + i]));
         i += 1;
     }
     t
 }
 
-fn store_received(out: &mut [i32], t: &[i32; 16], first: usize, count: usize)
-    requires { ⌜ (count ≤ 16) × (length (now t) ≡ 16) × (first + count ≤ length (now out)) ⌝ }
-    ensures { λ _. ⌜ now (out .exit) ≡ sets (now (out .entry)) first (take count (now (t .entry))) ⌝ }
+// Sixteen levels from the place `first` on, of which the first `start`, 0 or 1 of them, are 0.
+fn store_received(out: &mut [i32], t: &[i32; 16], first: usize, start: usize)
+    requires { ⌜ (start ≤ 1) × (length (now t) ≡ 16) × (first + 16 ≤ length (now out)) ⌝ }
+    ensures { λ _. ⌜ now (out .exit) ≡ sets (now (out .entry)) first (zeros start ++ drop start (now (t .entry))) ⌝ }
 {
     let mut i = 0;
-    while i < count {
+    while i < 16 {
         out[first + i] = t[i];
         i += 1;
     }
-}
-
-// `count` signed numbers, most of them short.
-fn read_list(out: &mut [i32], bytes: &[u8], at: usize, first: usize, count: usize) -> ListAnswer
-    requires { ⌜ (count ≤ 16) × (first + count ≤ length (now out)) ⌝ }
-    ensures { λ r. ⌜ Left at (mapGot (sets (now (out .entry)) first) (readSigneds count (drop at (now (bytes .entry))))) r (now (out .exit)) ⌝ }
-{
-    if short_at(bytes, at, count) {
-        let t = take_received(bytes, at, count);
-        store_received(out, &t, first, count);
-        return ListAnswer::End(at + count);
+    if start == 1 {
+        out[first] = 0;
     }
-    read_signed_numbers(out, bytes, at, first, count)
 }
 
-// List i, stored at its place.
+// The first place of list i that is sent.
+fn item_start(i: usize) -> usize
+    ensures { λ r. ⌜ r ≡ itemStart i ⌝ }
+{
+    if i < 18 { 0 } else { 1 }
+}
+
+// The number of its places.
+fn item_count(i: usize) -> usize
+    ensures { λ r. ⌜ r ≡ itemCount i ⌝ }
+{
+    if i < 16 {
+        return 16;
+    }
+    if i < 18 { 4 } else { 16 }
+}
+
+// List i, stored at its place. Most numbers are short: a list of sixteen places is then read at once, all bytes before a level is stored, as in picture's store_row. An AC list's place 0 is not sent, and the byte before the list is taken for it.
 fn parse_item(levels: &mut [i32], bytes: &[u8], at: usize, i: usize) -> ListAnswer
     requires { ⌜ (i < 26) × (length (now levels) ≡ 392) ⌝ }
     ensures { λ r. ⌜ Left at (mapGot (sets (now (levels .entry)) (itemPlace i)) (parseItem i (drop at (now (bytes .entry))))) r (now (levels .exit)) ⌝ }
 {
     let place = item_place(i);
-    if i < 16 {
-        return read_list(levels, bytes, at, place, 16);
+    let start = item_start(i);
+    let count = item_count(i);
+    if count == 16 {
+        if short_at(bytes, at, start) {
+            let t = take_received(bytes, at - start);
+            store_received(levels, &t, place, start);
+            return ListAnswer::End(at - start + 16);
+        }
     }
-    if i < 18 {
-        return read_list(levels, bytes, at, place, 4);
-    }
-    // an AC list's first number belongs to the place behind this one
     levels[place] = 0;
-    read_list(levels, bytes, at, place + 1, 15)
+    read_signed_numbers(levels, bytes, at, place + start, count - start)
 }
 
 fn parse_items(levels: &mut [i32], bytes: &[u8], at: usize, pattern: u8) -> ListAnswer

@@ -9,7 +9,7 @@ ghost use Rattle.record.specs.InnerSides.{sideBytes};
 ghost use Rattle.record.specs.InnerRecord.{recordOf};
 ghost use Rattle.record.specs.Record.{skipRecord};
 ghost use Rattle.transcript.specs.Written.{Written};
-ghost use Rattle.transcript.specs.InnerSent.{heldOf, sentShort, allShort, Held};
+ghost use Rattle.transcript.specs.InnerSent.{heldOf, sentShort, shortSent, Held};
 ghost use Rattle.record.specs.Range.{HeadRange};
 use ints::clamp_i32;
 use levels::svq3_cbp::chroma_class;
@@ -73,7 +73,7 @@ fn take_held(numbers: &[i32], first: usize, count: usize) -> [u8; 16]
 // Whether each of the first `count` is that of a short number.
 fn all_short(t: &[u8; 16], count: usize) -> bool
     requires { ⌜ count ≤ 16 ⌝ }
-    ensures { λ r. ⌜ r ≡ allShort (now (t .entry)) count ⌝ }
+    ensures { λ r. ⌜ r ≡ shortSent (now (t .entry)) count ⌝ }
 {
     let mut short = true;
     let mut i = 0;

@@ -3,29 +3,29 @@ use mathlib.Core.Path.{_≡_, refl}
 use Prim.Native.Nat.{_≤_, _-_}
 use native.Mathlib.Numerals.{add-one}
 use native.Mathlib.Omega.{arith}
-use Rattle.transcript.specs.InnerReceived.{allShort}
+use Rattle.transcript.specs.InnerReceived.{shortReceived}
 use Rattle.transcript.proofs.parse.all_short.Statement.{statement}
 use Rattle.transcript.proofs.parse.all_short.Tie as tie
 
 abbrev Inv-loop : tie.InvT-loop
-Inv-loop bytes at count short₀ i₀ short i = (i ≤ count) × (short ≡ allShort bytes at i)
+Inv-loop bytes at short₀ i₀ short i = (i ≤ 16) × (short ≡ shortReceived bytes at i)
 
 abbrev μ-loop : tie.MeasureT-loop
-μ-loop bytes at count short₀ i₀ short i = count - i
+μ-loop bytes at short₀ i₀ short i = 16 - i
 
 loop-holds : tie.Need-loop-holds Inv-loop μ-loop
-unfolding allShort
+unfolding shortReceived
 loop-holds c = (omega arith, refl)
 
 loop-again : tie.Need-loop-again Inv-loop μ-loop
-unfolding allShort
+unfolding shortReceived
 loop-again c =
     let l = c .before .before .loop in
     (omega arith, rw (add-one (l .i), l .inv .1))
 
 returns : tie.Need-returns Inv-loop μ-loop
 returns c =
-    let e : c .before .loop .i ≡ c .before .before .args .count = omega arith in
+    let e : c .before .loop .i ≡ 16 = omega arith in
     rw (← e) (c .before .loop .inv .1)
 
 pub all-short-spec : {M : Type 1} → statement M

@@ -1,22 +1,23 @@
--- `transcript::parse::store_received`: one number a turn.
-use mathlib.Core.Path.{_≡_, refl}
+-- `transcript::parse::store_received`: one number a turn, then the place that is not sent.
+use mathlib.Core.Path.{_≡_, refl, _∙_}
 use Prim.Native.Nat.{_≤_, _-_}
 use native.Mathlib.Omega.{arith}
 use borrow.Author.Needs.{needs}
 use lib.IntN.{pos}
 use lib.ListN.{length, take, getD, length-set}
-use lib.Seq.{sets}
+use lib.Seq.{sets, take-all}
 use mir.Syntax.{w32}
 use mir.Val.{toZ, ofZ}
 use Rattle.transcript.proofs.Sent.{stored-turn}
+use Rattle.transcript.proofs.Received.{all-stored, rest-stored}
 use Rattle.transcript.proofs.parse.store_received.Statement.{statement}
 use Rattle.transcript.proofs.parse.store_received.Tie as tie
 
 abbrev Inv-loop : tie.InvT-loop
-Inv-loop out₀ t first count i₀ out i = (i ≤ count) × (length out ≡ length out₀) × (out ≡ sets out₀ first (take i t))
+Inv-loop out₀ t first start i₀ out i = (i ≤ 16) × (length out ≡ length out₀) × (out ≡ sets out₀ first (take i t))
 
 abbrev μ-loop : tie.MeasureT-loop
-μ-loop out₀ t first count i₀ out i = count - i
+μ-loop out₀ t first start i₀ out i = 16 - i
 
 loop-holds : tie.Need-loop-holds Inv-loop μ-loop
 loop-holds c = (omega arith, refl, refl)
@@ -30,8 +31,15 @@ loop-again c =
 
 returns : tie.Need-returns Inv-loop μ-loop
 returns c =
-    let e : c .before .loop .i ≡ c .before .before .args .count = omega arith in
-    rw (← e) (c .before .loop .inv .2)
+    let a = c .before .before .before .args in
+    let l = c .before .before .loop in
+    rw (l .inv .2, take-all (l .i) (a .t .now) (omega arith)) (rest-stored (a .out .now) (a .first) (a .t .now) (a .start) (omega arith) (omega arith))
+
+returns-2 : tie.Need-returns-2 Inv-loop μ-loop
+returns-2 c =
+    let a = c .before .before .before .args in
+    let l = c .before .before .loop in
+    l .inv .2 ∙ rw (take-all (l .i) (a .t .now) (omega arith)) (all-stored (a .out .now) (a .first) (a .t .now) (a .start) (omega arith))
 
 pub store-received-spec : {M : Type 1} → statement M
 store-received-spec =
@@ -49,4 +57,8 @@ store-received-spec =
     (λ c. omega arith)
     loop-again
     (λ c. omega arith)
-    returns)
+    (λ c. omega arith)
+    (λ c. simp length-set (omega arith))
+    returns
+    (λ c. omega arith)
+    returns-2)

@@ -12,10 +12,10 @@ use Rattle.transcript.proofs.parse.take_received.Statement.{statement}
 use Rattle.transcript.proofs.parse.take_received.Tie as tie
 
 abbrev Inv-loop : tie.InvT-loop
-Inv-loop bytes at count t₀ i₀ t i = (i ≤ count) × Received bytes at i t
+Inv-loop bytes at t₀ i₀ t i = (i ≤ 16) × Received bytes at i t
 
 abbrev μ-loop : tie.MeasureT-loop
-μ-loop bytes at count t₀ i₀ t i = count - i
+μ-loop bytes at t₀ i₀ t i = 16 - i
 
 loop-holds : tie.Need-loop-holds Inv-loop μ-loop
 loop-holds c = (omega arith, record { size = refl; each = λ k h. absurd (omega arith) })
@@ -28,7 +28,7 @@ loop-again c =
 
 returns : tie.Need-returns Inv-loop μ-loop
 returns c =
-    let e : c .before .loop .i ≡ c .before .before .before .args .count = omega arith in
+    let e : c .before .loop .i ≡ 16 = omega arith in
     rw e at (c .before .loop .inv .1)
 
 pub take-received-spec : {M : Type 1} → statement M

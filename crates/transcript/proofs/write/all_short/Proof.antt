@@ -3,22 +3,22 @@ use mathlib.Core.Path.{_≡_, refl}
 use Prim.Native.Nat.{_≤_, _-_}
 use native.Mathlib.Numerals.{add-one}
 use native.Mathlib.Omega.{arith}
-use Rattle.transcript.specs.InnerSent.{allShort}
+use Rattle.transcript.specs.InnerSent.{shortSent}
 use Rattle.transcript.proofs.write.all_short.Statement.{statement}
 use Rattle.transcript.proofs.write.all_short.Tie as tie
 
 abbrev Inv-loop : tie.InvT-loop
-Inv-loop t count short₀ i₀ short i = (i ≤ count) × (short ≡ allShort t i)
+Inv-loop t count short₀ i₀ short i = (i ≤ count) × (short ≡ shortSent t i)
 
 abbrev μ-loop : tie.MeasureT-loop
 μ-loop t count short₀ i₀ short i = count - i
 
 loop-holds : tie.Need-loop-holds Inv-loop μ-loop
-unfolding allShort
+unfolding shortSent
 loop-holds c = (omega arith, refl)
 
 loop-again : tie.Need-loop-again Inv-loop μ-loop
-unfolding allShort
+unfolding shortSent
 loop-again c =
     let l = c .before .before .before .loop in
     (omega arith, rw (add-one (l .i), l .inv .1))
