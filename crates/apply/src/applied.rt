@@ -16,6 +16,7 @@ use crate::svq3_frame::compensate_luma;
 use crate::svq3_picture::store_partitions;
 use crate::svq3_recon::add_chroma;
 use crate::svq3_recon::add_luma;
+use picture::Grid;
 use picture::svq3_picture::copy_macroblock_from;
 use record::Head;
 use state::Call;
@@ -27,20 +28,19 @@ pub fn apply_luma(
     reference: &[u8],
     vectors: &[i32],
     levels: &[i32],
-    cols: usize,
-    rows: usize,
+    grid: Grid,
     head: Head,
 )
-    requires { ⌜ (cols ≤ 4096) × (rows ≤ 4096) × RecordRange cols rows (recordOf head (now vectors) (now levels)) × (0 < head .mode) × (length (now vectors) ≡ 32) × (length (now levels) ≡ 392) ⌝ }
-    requires { ⌜ PlanesSized false cols rows pic reference ⌝ }
-    ensures { λ _. ⌜ now (pic .exit) ≡ appliedLuma cols rows (now (reference .entry)) (recordOf head (now (vectors .entry)) (now (levels .entry))) (now (pic .entry)) ⌝ }
+    requires { ⌜ (grid .cols ≤ 4096) × (grid .rows ≤ 4096) × RecordRange (grid .cols) (grid .rows) (recordOf head (now vectors) (now levels)) × (0 < head .mode) × (length (now vectors) ≡ 32) × (length (now levels) ≡ 392) ⌝ }
+    requires { ⌜ PlanesSized false (grid .cols) (grid .rows) pic reference ⌝ }
+    ensures { λ _. ⌜ now (pic .exit) ≡ appliedLuma (grid .cols) (grid .rows) (now (reference .entry)) (recordOf head (now (vectors .entry)) (now (levels .entry))) (now (pic .entry)) ⌝ }
 {
     let column = head.column;
     let row = head.row;
     let mode = head.mode;
     let call = Call { column, row, mode };
-    compensate_luma(pic, reference, vectors, cols, rows, call);
-    add_luma(pic, levels, cols, rows, head);
+    compensate_luma(pic, reference, vectors, grid, call);
+    add_luma(pic, levels, grid, head);
 }
 
 // The same of both chroma planes.
@@ -51,22 +51,21 @@ pub fn apply_chroma(
     rcr: &[u8],
     vectors: &[i32],
     levels: &[i32],
-    cols: usize,
-    rows: usize,
+    grid: Grid,
     head: Head,
 )
-    requires { ⌜ (cols ≤ 4096) × (rows ≤ 4096) × RecordRange cols rows (recordOf head (now vectors) (now levels)) × (0 < head .mode) × (length (now vectors) ≡ 32) × (length (now levels) ≡ 392) ⌝ }
-    requires { ⌜ PlanesSized true cols rows cb rcb × PlanesSized true cols rows cr rcr ⌝ }
-    ensures { λ _. ⌜ now (cb .exit) ≡ appliedChroma 0 cols rows (now (rcb .entry)) (recordOf head (now (vectors .entry)) (now (levels .entry))) (now (cb .entry)) ⌝ }
-    ensures { λ _. ⌜ now (cr .exit) ≡ appliedChroma 1 cols rows (now (rcr .entry)) (recordOf head (now (vectors .entry)) (now (levels .entry))) (now (cr .entry)) ⌝ }
+    requires { ⌜ (grid .cols ≤ 4096) × (grid .rows ≤ 4096) × RecordRange (grid .cols) (grid .rows) (recordOf head (now vectors) (now levels)) × (0 < head .mode) × (length (now vectors) ≡ 32) × (length (now levels) ≡ 392) ⌝ }
+    requires { ⌜ PlanesSized true (grid .cols) (grid .rows) cb rcb × PlanesSized true (grid .cols) (grid .rows) cr rcr ⌝ }
+    ensures { λ _. ⌜ now (cb .exit) ≡ appliedChroma 0 (grid .cols) (grid .rows) (now (rcb .entry)) (recordOf head (now (vectors .entry)) (now (levels .entry))) (now (cb .entry)) ⌝ }
+    ensures { λ _. ⌜ now (cr .exit) ≡ appliedChroma 1 (grid .cols) (grid .rows) (now (rcr .entry)) (recordOf head (now (vectors .entry)) (now (levels .entry))) (now (cr .entry)) ⌝ }
 {
     let column = head.column;
     let row = head.row;
     let mode = head.mode;
     let call = Call { column, row, mode };
-    compensate_chroma(cb, cr, rcb, rcr, vectors, cols, rows, call);
-    add_chroma(cb, levels, cols, rows, head, 0);
-    add_chroma(cr, levels, cols, rows, head, 1);
+    compensate_chroma(cb, cr, rcb, rcr, vectors, grid, call);
+    add_chroma(cb, levels, grid, head, 0);
+    add_chroma(cr, levels, grid, head, 1);
 }
 
 // A record that is no skip: the three planes, the vectors and the marks.
@@ -81,24 +80,23 @@ pub fn apply_coded(
     rcr: &[u8],
     vectors: &[i32],
     levels: &[i32],
-    cols: usize,
-    rows: usize,
+    grid: Grid,
     head: Head,
 )
-    requires { ⌜ (cols ≤ 4096) × (rows ≤ 4096) × RecordRange cols rows (recordOf head (now vectors) (now levels)) × (0 < head .mode) × (length (now vectors) ≡ 32) × (length (now levels) ≡ 392) ⌝ }
-    requires { ⌜ AllSized cols rows (lentLengths y cb cr mv marks ry rcb rcr) ⌝ }
-    ensures { λ _. ⌜ now (y .exit) ≡ appliedLuma cols rows (now (ry .entry)) (recordOf head (now (vectors .entry)) (now (levels .entry))) (now (y .entry)) ⌝ }
-    ensures { λ _. ⌜ now (cb .exit) ≡ appliedChroma 0 cols rows (now (rcb .entry)) (recordOf head (now (vectors .entry)) (now (levels .entry))) (now (cb .entry)) ⌝ }
-    ensures { λ _. ⌜ now (cr .exit) ≡ appliedChroma 1 cols rows (now (rcr .entry)) (recordOf head (now (vectors .entry)) (now (levels .entry))) (now (cr .entry)) ⌝ }
-    ensures { λ _. ⌜ now (mv .exit) ≡ appliedField (recordOf head (now (vectors .entry)) (now (levels .entry))) (lentField cols rows (now (mv .entry)) (now (marks .entry))) .mv ⌝ }
-    ensures { λ _. ⌜ now (marks .exit) ≡ appliedField (recordOf head (now (vectors .entry)) (now (levels .entry))) (lentField cols rows (now (mv .entry)) (now (marks .entry))) .marks ⌝ }
+    requires { ⌜ (grid .cols ≤ 4096) × (grid .rows ≤ 4096) × RecordRange (grid .cols) (grid .rows) (recordOf head (now vectors) (now levels)) × (0 < head .mode) × (length (now vectors) ≡ 32) × (length (now levels) ≡ 392) ⌝ }
+    requires { ⌜ AllSized (grid .cols) (grid .rows) (lentLengths y cb cr mv marks ry rcb rcr) ⌝ }
+    ensures { λ _. ⌜ now (y .exit) ≡ appliedLuma (grid .cols) (grid .rows) (now (ry .entry)) (recordOf head (now (vectors .entry)) (now (levels .entry))) (now (y .entry)) ⌝ }
+    ensures { λ _. ⌜ now (cb .exit) ≡ appliedChroma 0 (grid .cols) (grid .rows) (now (rcb .entry)) (recordOf head (now (vectors .entry)) (now (levels .entry))) (now (cb .entry)) ⌝ }
+    ensures { λ _. ⌜ now (cr .exit) ≡ appliedChroma 1 (grid .cols) (grid .rows) (now (rcr .entry)) (recordOf head (now (vectors .entry)) (now (levels .entry))) (now (cr .entry)) ⌝ }
+    ensures { λ _. ⌜ now (mv .exit) ≡ appliedField (recordOf head (now (vectors .entry)) (now (levels .entry))) (lentField (grid .cols) (grid .rows) (now (mv .entry)) (now (marks .entry))) .mv ⌝ }
+    ensures { λ _. ⌜ now (marks .exit) ≡ appliedField (recordOf head (now (vectors .entry)) (now (levels .entry))) (lentField (grid .cols) (grid .rows) (now (mv .entry)) (now (marks .entry))) .marks ⌝ }
 {
-    apply_luma(y, ry, vectors, levels, cols, rows, head);
-    apply_chroma(cb, cr, rcb, rcr, vectors, levels, cols, rows, head);
+    apply_luma(y, ry, vectors, levels, grid, head);
+    apply_chroma(cb, cr, rcb, rcr, vectors, levels, grid, head);
     let column = head.column;
     let row = head.row;
     let mode = head.mode;
-    store_partitions(mv, marks, vectors, cols, rows, Call { column, row, mode });
+    store_partitions(mv, marks, vectors, grid, Call { column, row, mode });
 }
 
 // A skip: its three blocks are copied.
@@ -111,19 +109,18 @@ pub fn apply_skip(
     ry: &[u8],
     rcb: &[u8],
     rcr: &[u8],
-    cols: usize,
-    rows: usize,
+    grid: Grid,
     column: usize,
     row: usize,
 )
-    requires { ⌜ Within cols rows column row ⌝ }
-    requires { ⌜ AllSized cols rows (lentLengths y cb cr mv marks ry rcb rcr) ⌝ }
-    ensures { λ _. ⌜ now (y .exit) ≡ appliedLuma cols rows (now (ry .entry)) (skipRecord column row) (now (y .entry)) ⌝ }
-    ensures { λ _. ⌜ now (cb .exit) ≡ appliedChroma 0 cols rows (now (rcb .entry)) (skipRecord column row) (now (cb .entry)) ⌝ }
-    ensures { λ _. ⌜ now (cr .exit) ≡ appliedChroma 1 cols rows (now (rcr .entry)) (skipRecord column row) (now (cr .entry)) ⌝ }
-    ensures { λ _. ⌜ now (mv .exit) ≡ appliedField (skipRecord column row) (lentField cols rows (now (mv .entry)) (now (marks .entry))) .mv ⌝ }
-    ensures { λ _. ⌜ now (marks .exit) ≡ appliedField (skipRecord column row) (lentField cols rows (now (mv .entry)) (now (marks .entry))) .marks ⌝ }
+    requires { ⌜ Within (grid .cols) (grid .rows) column row ⌝ }
+    requires { ⌜ AllSized (grid .cols) (grid .rows) (lentLengths y cb cr mv marks ry rcb rcr) ⌝ }
+    ensures { λ _. ⌜ now (y .exit) ≡ appliedLuma (grid .cols) (grid .rows) (now (ry .entry)) (skipRecord column row) (now (y .entry)) ⌝ }
+    ensures { λ _. ⌜ now (cb .exit) ≡ appliedChroma 0 (grid .cols) (grid .rows) (now (rcb .entry)) (skipRecord column row) (now (cb .entry)) ⌝ }
+    ensures { λ _. ⌜ now (cr .exit) ≡ appliedChroma 1 (grid .cols) (grid .rows) (now (rcr .entry)) (skipRecord column row) (now (cr .entry)) ⌝ }
+    ensures { λ _. ⌜ now (mv .exit) ≡ appliedField (skipRecord column row) (lentField (grid .cols) (grid .rows) (now (mv .entry)) (now (marks .entry))) .mv ⌝ }
+    ensures { λ _. ⌜ now (marks .exit) ≡ appliedField (skipRecord column row) (lentField (grid .cols) (grid .rows) (now (mv .entry)) (now (marks .entry))) .marks ⌝ }
 {
-    copy_macroblock_from(y, cb, cr, ry, rcb, rcr, cols, rows, column, row);
-    mark_macroblock(mv, marks, cols, column, row);
+    copy_macroblock_from(y, cb, cr, ry, rcb, rcr, grid, column, row);
+    mark_macroblock(mv, marks, grid, column, row);
 }

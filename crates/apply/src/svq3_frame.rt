@@ -17,6 +17,7 @@ use compensation::svq3_mc::compensate_taps;
 use compensation::svq3_mc::taps_of;
 use ints::half_toward_zero;
 use picture::Block;
+use picture::Grid;
 use picture::Size;
 use state::Call;
 use vectors::svq3_mb::num_motion_vectors;
@@ -39,16 +40,16 @@ fn vector_over(chroma: bool, v: i32) -> i32
     if chroma { half_toward_zero(v) } else { v }
 }
 
-// Where partition i lies in a plane of a picture that is `cols` macroblocks wide.
-fn block_of(call: Call, cols: usize, chroma: bool, i: usize) -> Block
-    requires { ⌜ (cols ≤ 4096) × (call .mode ≤ 7) × (i < numMotionVectors (call .mode)) ⌝ }
-    ensures { λ r. ⌜ r ≡ partBlock (unit chroma) cols call i ⌝ }
+// Where partition i lies in a plane of a picture of that grid.
+fn block_of(call: Call, grid: Grid, chroma: bool, i: usize) -> Block
+    requires { ⌜ (grid .cols ≤ 4096) × (call .mode ≤ 7) × (i < numMotionVectors (call .mode)) ⌝ }
+    ensures { λ r. ⌜ r ≡ partBlock (unit chroma) (grid .cols) call i ⌝ }
 {
     let mode = call.mode;
     let column = call.column as usize;
     let row = call.row as usize;
     Block {
-        stride: over(chroma, 16) * cols,
+        stride: over(chroma, 16) * grid.cols,
         x: over(chroma, 16 * column + partition_offset_x(mode, i)),
         y: over(chroma, 16 * row + partition_offset_y(mode, i)),
         w: over(chroma, partition_width(mode)),
@@ -73,41 +74,33 @@ fn compensate_partition(
     pic: &mut [u8],
     reference: &[u8],
     vectors: &[i32],
-    cols: usize,
-    rows: usize,
+    grid: Grid,
     call: Call,
     i: usize,
 )
-    requires { ⌜ Within cols rows (call .column) (call .row) × (call .mode ≤ 7) × (i < numMotionVectors (call .mode)) ⌝ }
-    requires { ⌜ PlanesSized false cols rows pic reference × (length (now vectors) ≡ 32) ⌝ }
-    ensures { λ _. ⌜ now (pic .exit) ≡ movedOnce (unit false) cols rows (now (reference .entry)) call (now (vectors .entry)) i (now (pic .entry)) ⌝ }
+    requires { ⌜ Within (grid .cols) (grid .rows) (call .column) (call .row) × (call .mode ≤ 7) × (i < numMotionVectors (call .mode)) ⌝ }
+    requires { ⌜ PlanesSized false (grid .cols) (grid .rows) pic reference × (length (now vectors) ≡ 32) ⌝ }
+    ensures { λ _. ⌜ now (pic .exit) ≡ movedOnce (unit false) (grid .cols) (grid .rows) (now (reference .entry)) call (now (vectors .entry)) i (now (pic .entry)) ⌝ }
 {
-    let b = block_of(call, cols, false, i);
+    let b = block_of(call, grid, false, i);
     let size = Size {
         width: b.stride,
-        height: 16 * rows,
+        height: 16 * grid.rows,
     };
     let t = taps_in(vectors, b, size, false, i);
     compensate_taps(pic, reference, b, size, t);
 }
 
 // All partitions of a macroblock's luma.
-pub fn compensate_luma(
-    pic: &mut [u8],
-    reference: &[u8],
-    vectors: &[i32],
-    cols: usize,
-    rows: usize,
-    call: Call,
-)
-    requires { ⌜ Within cols rows (call .column) (call .row) × (call .mode ≤ 7) ⌝ }
-    requires { ⌜ PlanesSized false cols rows pic reference × (length (now vectors) ≡ 32) ⌝ }
-    ensures { λ _. ⌜ now (pic .exit) ≡ movedUpTo (numMotionVectors (call .mode)) (unit false) cols rows (now (reference .entry)) call (now (vectors .entry)) (now (pic .entry)) ⌝ }
+pub fn compensate_luma(pic: &mut [u8], reference: &[u8], vectors: &[i32], grid: Grid, call: Call)
+    requires { ⌜ Within (grid .cols) (grid .rows) (call .column) (call .row) × (call .mode ≤ 7) ⌝ }
+    requires { ⌜ PlanesSized false (grid .cols) (grid .rows) pic reference × (length (now vectors) ≡ 32) ⌝ }
+    ensures { λ _. ⌜ now (pic .exit) ≡ movedUpTo (numMotionVectors (call .mode)) (unit false) (grid .cols) (grid .rows) (now (reference .entry)) call (now (vectors .entry)) (now (pic .entry)) ⌝ }
 {
     let n = num_motion_vectors(call.mode);
     let mut i = 0;
     while i < n {
-        compensate_partition(pic, reference, vectors, cols, rows, call, i);
+        compensate_partition(pic, reference, vectors, grid, call, i);
         i += 1;
     }
 }
@@ -119,20 +112,19 @@ fn compensate_pair(
     rcb: &[u8],
     rcr: &[u8],
     vectors: &[i32],
-    cols: usize,
-    rows: usize,
+    grid: Grid,
     call: Call,
     i: usize,
 )
-    requires { ⌜ Within cols rows (call .column) (call .row) × (call .mode ≤ 7) × (i < numMotionVectors (call .mode)) ⌝ }
-    requires { ⌜ PlanesSized true cols rows cb rcb × PlanesSized true cols rows cr rcr × (length (now vectors) ≡ 32) ⌝ }
-    ensures { λ _. ⌜ now (cb .exit) ≡ movedOnce (unit true) cols rows (now (rcb .entry)) call (now (vectors .entry)) i (now (cb .entry)) ⌝ }
-    ensures { λ _. ⌜ now (cr .exit) ≡ movedOnce (unit true) cols rows (now (rcr .entry)) call (now (vectors .entry)) i (now (cr .entry)) ⌝ }
+    requires { ⌜ Within (grid .cols) (grid .rows) (call .column) (call .row) × (call .mode ≤ 7) × (i < numMotionVectors (call .mode)) ⌝ }
+    requires { ⌜ PlanesSized true (grid .cols) (grid .rows) cb rcb × PlanesSized true (grid .cols) (grid .rows) cr rcr × (length (now vectors) ≡ 32) ⌝ }
+    ensures { λ _. ⌜ now (cb .exit) ≡ movedOnce (unit true) (grid .cols) (grid .rows) (now (rcb .entry)) call (now (vectors .entry)) i (now (cb .entry)) ⌝ }
+    ensures { λ _. ⌜ now (cr .exit) ≡ movedOnce (unit true) (grid .cols) (grid .rows) (now (rcr .entry)) call (now (vectors .entry)) i (now (cr .entry)) ⌝ }
 {
-    let b = block_of(call, cols, true, i);
+    let b = block_of(call, grid, true, i);
     let size = Size {
         width: b.stride,
-        height: 8 * rows,
+        height: 8 * grid.rows,
     };
     let t = taps_in(vectors, b, size, true, i);
     compensate_both(cb, cr, rcb, rcr, b, size, t);
@@ -145,19 +137,18 @@ pub fn compensate_chroma(
     rcb: &[u8],
     rcr: &[u8],
     vectors: &[i32],
-    cols: usize,
-    rows: usize,
+    grid: Grid,
     call: Call,
 )
-    requires { ⌜ Within cols rows (call .column) (call .row) × (call .mode ≤ 7) ⌝ }
-    requires { ⌜ PlanesSized true cols rows cb rcb × PlanesSized true cols rows cr rcr × (length (now vectors) ≡ 32) ⌝ }
-    ensures { λ _. ⌜ now (cb .exit) ≡ movedUpTo (numMotionVectors (call .mode)) (unit true) cols rows (now (rcb .entry)) call (now (vectors .entry)) (now (cb .entry)) ⌝ }
-    ensures { λ _. ⌜ now (cr .exit) ≡ movedUpTo (numMotionVectors (call .mode)) (unit true) cols rows (now (rcr .entry)) call (now (vectors .entry)) (now (cr .entry)) ⌝ }
+    requires { ⌜ Within (grid .cols) (grid .rows) (call .column) (call .row) × (call .mode ≤ 7) ⌝ }
+    requires { ⌜ PlanesSized true (grid .cols) (grid .rows) cb rcb × PlanesSized true (grid .cols) (grid .rows) cr rcr × (length (now vectors) ≡ 32) ⌝ }
+    ensures { λ _. ⌜ now (cb .exit) ≡ movedUpTo (numMotionVectors (call .mode)) (unit true) (grid .cols) (grid .rows) (now (rcb .entry)) call (now (vectors .entry)) (now (cb .entry)) ⌝ }
+    ensures { λ _. ⌜ now (cr .exit) ≡ movedUpTo (numMotionVectors (call .mode)) (unit true) (grid .cols) (grid .rows) (now (rcr .entry)) call (now (vectors .entry)) (now (cr .entry)) ⌝ }
 {
     let n = num_motion_vectors(call.mode);
     let mut k = 0;
     while k < n {
-        compensate_pair(cb, cr, rcb, rcr, vectors, cols, rows, call, k);
+        compensate_pair(cb, cr, rcb, rcr, vectors, grid, call, k);
         k += 1;
     }
 }

@@ -9,6 +9,7 @@ ghost use Rattle.vectors.specs.Modes.{numMotionVectors};
 ghost use Rattle.picture.specs.InnerField.{lentField};
 ghost use Rattle.apply.specs.Apply.{storedUpTo};
 ghost use Rattle.apply.specs.InnerCells.{ownerOf, ownNumber};
+use picture::Grid;
 use state::Call;
 use vectors::svq3_frame::mark_row;
 
@@ -45,20 +46,13 @@ fn store_row(mv: &mut [i32], vectors: &[i32], at: usize, four: u64)
 }
 
 // The vectors of all partitions, marked 1, in each of their cells.
-pub fn store_partitions(
-    mv: &mut [i32],
-    marks: &mut [u8],
-    vectors: &[i32],
-    cols: usize,
-    rows: usize,
-    call: Call,
-)
-    requires { ⌜ Within cols rows (call .column) (call .row) × (call .mode ≤ 7) × (0 < call .mode) ⌝ }
-    requires { ⌜ (length (now mv) ≡ 2 * cellCount cols rows) × (length (now marks) ≡ cellCount cols rows) × (length (now vectors) ≡ 32) ⌝ }
-    ensures { λ _. ⌜ now (mv .exit) ≡ storedUpTo (numMotionVectors (call .mode)) call (now (vectors .entry)) (lentField cols rows (now (mv .entry)) (now (marks .entry))) .mv ⌝ }
-    ensures { λ _. ⌜ now (marks .exit) ≡ storedUpTo (numMotionVectors (call .mode)) call (now (vectors .entry)) (lentField cols rows (now (mv .entry)) (now (marks .entry))) .marks ⌝ }
+pub fn store_partitions(mv: &mut [i32], marks: &mut [u8], vectors: &[i32], grid: Grid, call: Call)
+    requires { ⌜ Within (grid .cols) (grid .rows) (call .column) (call .row) × (call .mode ≤ 7) × (0 < call .mode) ⌝ }
+    requires { ⌜ (length (now mv) ≡ 2 * cellCount (grid .cols) (grid .rows)) × (length (now marks) ≡ cellCount (grid .cols) (grid .rows)) × (length (now vectors) ≡ 32) ⌝ }
+    ensures { λ _. ⌜ now (mv .exit) ≡ storedUpTo (numMotionVectors (call .mode)) call (now (vectors .entry)) (lentField (grid .cols) (grid .rows) (now (mv .entry)) (now (marks .entry))) .mv ⌝ }
+    ensures { λ _. ⌜ now (marks .exit) ≡ storedUpTo (numMotionVectors (call .mode)) call (now (vectors .entry)) (lentField (grid .cols) (grid .rows) (now (mv .entry)) (now (marks .entry))) .marks ⌝ }
 {
-    let stride = 4 * cols;
+    let stride = 4 * grid.cols;
     let x = 4 * (call.column as usize);
     let y = 4 * (call.row as usize);
     let whose = owners(call.mode);

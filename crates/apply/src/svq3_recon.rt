@@ -13,6 +13,7 @@ ghost use Rattle.apply.specs.Blocks.{lumaUpTo, chromaAdded};
 ghost use Rattle.apply.specs.InnerSquares.{quadrantAdded, squareAdded};
 use levels::svq3_cbp::chroma_class;
 use levels::svq3_cbp::luma_quadrant_coded;
+use picture::Grid;
 use record::Head;
 use transform::four::add_chroma_blocks;
 use transform::four::add_chroma_dc_blocks;
@@ -20,26 +21,26 @@ use transform::four::add_luma_quadrant;
 use transform::svq3_dequant::dequantize_chroma_dc_levels;
 
 // Luma quadrant q, where it is coded.
-fn add_quadrant(pic: &mut [u8], levels: &[i32], cols: usize, rows: usize, head: Head, q: usize)
-    requires { ⌜ Within cols rows (head .column) (head .row) × (q < 4) ⌝ }
-    requires { ⌜ (length (now pic) ≡ lumaLength cols rows) × (length (now levels) ≡ 392) × (head .pattern ≤ 47) × (head .quantiser ≤ 31) ⌝ }
-    ensures { λ _. ⌜ now (pic .exit) ≡ quadrantAdded q cols head (now (levels .entry)) (now (pic .entry)) ⌝ }
+fn add_quadrant(pic: &mut [u8], levels: &[i32], grid: Grid, head: Head, q: usize)
+    requires { ⌜ Within (grid .cols) (grid .rows) (head .column) (head .row) × (q < 4) ⌝ }
+    requires { ⌜ (length (now pic) ≡ lumaLength (grid .cols) (grid .rows)) × (length (now levels) ≡ 392) × (head .pattern ≤ 47) × (head .quantiser ≤ 31) ⌝ }
+    ensures { λ _. ⌜ now (pic .exit) ≡ quadrantAdded q (grid .cols) head (now (levels .entry)) (now (pic .entry)) ⌝ }
 {
     if luma_quadrant_coded(head.pattern as u8, q as u32) {
         let x = 16 * (head.column as usize) + 8 * (q % 2);
         let y = 16 * (head.row as usize) + 8 * (q / 2);
-        add_luma_quadrant(pic, levels, 64 * q, 16 * cols, x, y, head.quantiser);
+        add_luma_quadrant(pic, levels, 64 * q, 16 * grid.cols, x, y, head.quantiser);
     }
 }
 
-pub fn add_luma(pic: &mut [u8], levels: &[i32], cols: usize, rows: usize, head: Head)
-    requires { ⌜ Within cols rows (head .column) (head .row) ⌝ }
-    requires { ⌜ (length (now pic) ≡ lumaLength cols rows) × (length (now levels) ≡ 392) × (head .pattern ≤ 47) × (head .quantiser ≤ 31) ⌝ }
-    ensures { λ _. ⌜ now (pic .exit) ≡ lumaUpTo 16 cols head (now (levels .entry)) (now (pic .entry)) ⌝ }
+pub fn add_luma(pic: &mut [u8], levels: &[i32], grid: Grid, head: Head)
+    requires { ⌜ Within (grid .cols) (grid .rows) (head .column) (head .row) ⌝ }
+    requires { ⌜ (length (now pic) ≡ lumaLength (grid .cols) (grid .rows)) × (length (now levels) ≡ 392) × (head .pattern ≤ 47) × (head .quantiser ≤ 31) ⌝ }
+    ensures { λ _. ⌜ now (pic .exit) ≡ lumaUpTo 16 (grid .cols) head (now (levels .entry)) (now (pic .entry)) ⌝ }
 {
     let mut q = 0;
     while q < 4 {
-        add_quadrant(pic, levels, cols, rows, head, q);
+        add_quadrant(pic, levels, grid, head, q);
         q += 1;
     }
 }
@@ -67,17 +68,10 @@ fn add_square(
     }
 }
 
-pub fn add_chroma(
-    pic: &mut [u8],
-    levels: &[i32],
-    cols: usize,
-    rows: usize,
-    head: Head,
-    plane: usize,
-)
-    requires { ⌜ Within cols rows (head .column) (head .row) × (plane < 2) ⌝ }
-    requires { ⌜ (length (now pic) ≡ chromaLength cols rows) × (head .pattern ≤ 47) × (head .quantiser ≤ 31) × ListsRange ItemRange (head .pattern) (now levels) ⌝ }
-    ensures { λ _. ⌜ now (pic .exit) ≡ chromaAdded plane cols head (now (levels .entry)) (now (pic .entry)) ⌝ }
+pub fn add_chroma(pic: &mut [u8], levels: &[i32], grid: Grid, head: Head, plane: usize)
+    requires { ⌜ Within (grid .cols) (grid .rows) (head .column) (head .row) × (plane < 2) ⌝ }
+    requires { ⌜ (length (now pic) ≡ chromaLength (grid .cols) (grid .rows)) × (head .pattern ≤ 47) × (head .quantiser ≤ 31) × ListsRange ItemRange (head .pattern) (now levels) ⌝ }
+    ensures { λ _. ⌜ now (pic .exit) ≡ chromaAdded plane (grid .cols) head (now (levels .entry)) (now (pic .entry)) ⌝ }
 {
     let class = chroma_class(head.pattern as u8);
     if 0 < class {
@@ -86,7 +80,7 @@ pub fn add_chroma(
         add_square(
             pic,
             levels,
-            8 * cols,
+            8 * grid.cols,
             x,
             y,
             plane,

@@ -7,6 +7,7 @@ use crate::MbAnswer;
 use crate::MbReport;
 use apply::applied::apply_coded;
 use apply::applied::apply_skip;
+use picture::Grid;
 use reading::svq3_frame::ReadAnswer;
 use reading::svq3_frame::read_coded;
 use state::Asked;
@@ -42,8 +43,10 @@ fn decode_coded(
 {
     let mut vectors = [0i32; 32];
     let mut levels = [0i32; 392];
-    let cols = frame.cols as usize;
-    let rows = frame.rows as usize;
+    let grid = Grid {
+        cols: frame.cols as usize,
+        rows: frame.rows as usize,
+    };
     let flags = frame.flags;
     match read_coded(
         &mut vectors,
@@ -52,8 +55,7 @@ fn decode_coded(
         marks,
         bits,
         place,
-        cols,
-        rows,
+        grid,
         call,
         flags,
         quantiser,
@@ -71,8 +73,7 @@ fn decode_coded(
                 rcr,
                 &vectors,
                 &levels,
-                cols,
-                rows,
+                grid,
                 head,
             );
             MbAnswer::Accepted(MbReport {
@@ -117,6 +118,10 @@ fn decode_skip(
         ≡ decoded (stateBefore frame quantiser ry rcb rcr y cb cr mv marks) call (now (bits .entry)) place (now (transcript .entry)) fill ⌝ }
 {
     let filled = put_skip(transcript, fill, call.column, call.row);
+    let grid = Grid {
+        cols: frame.cols as usize,
+        rows: frame.rows as usize,
+    };
     apply_skip(
         y,
         cb,
@@ -126,8 +131,7 @@ fn decode_skip(
         ry,
         rcb,
         rcr,
-        frame.cols as usize,
-        frame.rows as usize,
+        grid,
         call.column as usize,
         call.row as usize,
     );

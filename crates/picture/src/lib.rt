@@ -11,6 +11,12 @@ pub struct Block {
     pub h: usize,
 }
 
+// The columns and rows of macroblocks of a picture.
+pub struct Grid {
+    pub cols: usize,
+    pub rows: usize,
+}
+
 // The columns and rows of a plane.
 pub struct Size {
     pub width: usize,

@@ -25,11 +25,11 @@ module _ (motion : Motion) (i : ℕ) (g : InGrid motion) (among : i < numMotionV
   part-at = rw (eox, eoy, ew, eh) (part-of (motion .call .mode) i (g .mode) among)
 
   -- the window, by the size as it was answered
-  size-follows : {f : Field} {near : List ℤ} {marked : List ℕ} → Follows (partitionWidth (motion .call .mode) / 4) (partitionHeight (motion .call .mode) / 4) f (motion .cols) (motion .rows) (motion .call .column) (motion .call .row) near marked → Follows (w / 4) (h / 4) f (motion .cols) (motion .rows) (motion .call .column) (motion .call .row) near marked
-  size-follows {f} {near} {marked} t = transport (λ j. Follows (sym ew j / 4) (sym eh j / 4) f (motion .cols) (motion .rows) (motion .call .column) (motion .call .row) near marked) t
+  size-follows : {f : Field} {near : List ℤ} {marked : List ℕ} → Follows (partitionWidth (motion .call .mode) / 4) (partitionHeight (motion .call .mode) / 4) f (motion .grid .cols) (motion .grid .rows) (motion .call .column) (motion .call .row) near marked → Follows (w / 4) (h / 4) f (motion .grid .cols) (motion .grid .rows) (motion .call .column) (motion .call .row) near marked
+  size-follows {f} {near} {marked} t = transport (λ j. Follows (sym ew j / 4) (sym eh j / 4) f (motion .grid .cols) (motion .grid .rows) (motion .call .column) (motion .call .row) near marked) t
 
-  module _ {f : Field} {near : List ℤ} {marked : List ℕ} (t : Follows (partitionWidth (motion .call .mode) / 4) (partitionHeight (motion .call .mode) / 4) f (motion .cols) (motion .rows) (motion .call .column) (motion .call .row) near marked)
-      {from : Vector} (answered : (f : Field) → f .cols ≡ motion .cols → f .rows ≡ motion .rows → Seen (w / 4) (h / 4) f (motion .call .column) (motion .call .row) near marked → from ≡ predictor f (4 * motion .call .column + ox / 4) (4 * motion .call .row + oy / 4) (w / 4) (h / 4)) where
+  module _ {f : Field} {near : List ℤ} {marked : List ℕ} (t : Follows (partitionWidth (motion .call .mode) / 4) (partitionHeight (motion .call .mode) / 4) f (motion .grid .cols) (motion .grid .rows) (motion .call .column) (motion .call .row) near marked)
+      {from : Vector} (answered : (f : Field) → f .cols ≡ motion .grid .cols → f .rows ≡ motion .grid .rows → Seen (w / 4) (h / 4) f (motion .call .column) (motion .call .row) near marked → from ≡ predictor f (4 * motion .call .column + ox / 4) (4 * motion .call .row + oy / 4) (w / 4) (h / 4)) where
     pub held-at : (natAbs (from .x .0) ≤ 393216) × (natAbs (from .y .0) ≤ 393216)
     held-at = follows-held (g .within) (size-follows t) (ox / 4) (oy / 4) part-at (answered f (t .same-cols) (t .same-rows) (size-follows t .seen))
 
@@ -39,7 +39,7 @@ module _ (motion : Motion) (i : ℕ) (g : InGrid motion) (among : i < numMotionV
 
   -- MOVED
   module _ (dx dy : ℤ) (m : Moving) {clipped : ℕ} {vectors near : List ℤ} {marked : List ℕ} (t : Holds m motion clipped vectors near marked)
-      {from : Vector} (answered : (f : Field) → f .cols ≡ motion .cols → f .rows ≡ motion .rows → Seen (w / 4) (h / 4) f (motion .call .column) (motion .call .row) near marked → from ≡ predictor f (4 * motion .call .column + ox / 4) (4 * motion .call .row + oy / 4) (w / 4) (h / 4))
+      {from : Vector} (answered : (f : Field) → f .cols ≡ motion .grid .cols → f .rows ≡ motion .grid .rows → Seen (w / 4) (h / 4) f (motion .call .column) (motion .call .row) near marked → from ≡ predictor f (4 * motion .call .column + ox / 4) (4 * motion .call .row + oy / 4) (w / 4) (h / 4))
       {vx vy : ℤ} (ex : vx ≡ storedPart (motion .precision) (from .x .0) dx) (ey : vy ≡ storedPart (motion .precision) (from .y .0) dy)
       {bx by : ℕ} (fx : bx ≡ bitValue (clippedPart (motion .precision) (from .x .0) dx)) (fy : by ≡ bitValue (clippedPart (motion .precision) (from .y .0) dy))
       {near′ : List ℤ} {marked′ : List ℕ} (en : near′ ≡ cornerPairs near ((oy / 4 + 1) * 6 + (ox / 4 + 1)) (w / 4 - 1) (6 * (h / 4 - 1)) vx vy) (em : marked′ ≡ cornerMarks marked ((oy / 4 + 1) * 6 + (ox / 4 + 1)) (w / 4 - 1) (6 * (h / 4 - 1))) where
@@ -55,6 +55,6 @@ module _ (motion : Motion) (i : ℕ) (g : InGrid motion) (among : i < numMotionV
         record {
           count = λ j. t .count j + kx j + ky j;
           stored = λ j. set (set (t .stored j) (2 * i) (sx j)) (2 * i + 1) (sy j);
-          follows = transport (λ j. Follows (ew j / 4) (eh j / 4) (storedField f (4 * motion .call .column + eox j / 4) (4 * motion .call .row + eoy j / 4) (ew j / 4) (eh j / 4) (sx j) (sy j)) (motion .cols) (motion .rows) (motion .call .column) (motion .call .row) near′ marked′)
+          follows = transport (λ j. Follows (ew j / 4) (eh j / 4) (storedField f (4 * motion .call .column + eox j / 4) (4 * motion .call .row + eoy j / 4) (ew j / 4) (eh j / 4) (sx j) (sy j)) (motion .grid .cols) (motion .grid .rows) (motion .call .column) (motion .call .row) near′ marked′)
               (follows-stored (g .within) (size-follows (t .follows)) (ox / 4) (oy / 4) part-at vx vy en em);
         }

@@ -40,14 +40,14 @@ readAnswer at (refused r) = Refused r
 
 -- ---- a call inside its grid
 pub record InGrid (motion : Motion) : Type 0 where
-  pub within : Within (motion .cols) (motion .rows) (motion .call .column) (motion .call .row)
+  pub within : Within (motion .grid .cols) (motion .grid .rows) (motion .call .column) (motion .call .row)
   pub mode : motion .call .mode ≤ 7
 
 -- what was read of the vectors, as the code holds it: how many components were clipped, the vectors, and a window that follows the field
 pub record Holds (m : Moving) (motion : Motion) (clipped : ℕ) (vectors near : List ℤ) (marked : List ℕ) : Type 0 where
   pub count : clipped ≡ m .clipped
   pub stored : vectors ≡ m .vectors
-  pub follows : Follows (partitionWidth (motion .call .mode) / 4) (partitionHeight (motion .call .mode) / 4) (m .field) (motion .cols) (motion .rows) (motion .call .column) (motion .call .row) near marked
+  pub follows : Follows (partitionWidth (motion .call .mode) / 4) (partitionHeight (motion .call .mode) / 4) (m .field) (motion .grid .cols) (motion .grid .rows) (motion .call .column) (motion .call .row) near marked
 
 -- the answer of a reader of one partition's vector, and what it leaves, which is said where it has a vector
 pub record Stepping (motion : Motion) (at : ℕ) (read : Got Moving) (answer : VectorsAnswer) (vectors near : List ℤ) (marked : List ℕ) : Type 0 where

@@ -20,6 +20,7 @@ use levels::items::read_items;
 use levels::svq3_cbp::CbpAnswer;
 use levels::svq3_cbp::read_cbp_inter;
 use levels::svq3_coeff::ListAnswer;
+use picture::Grid;
 use record::Head;
 use refusal::Refusal;
 use state::Call;
@@ -65,8 +66,7 @@ fn bit_value(b: bool) -> u32
 
 // What the partitions of a macroblock have in common: its grid, its call and the precision of its vectors.
 struct Motion {
-    cols: usize,
-    rows: usize,
+    grid: Grid,
     call: Call,
     precision: Svq3MvPrecision,
 }
@@ -93,9 +93,8 @@ fn move_partition(
     let high = partition_height(call.mode) / 4;
     let cx = partition_offset_x(call.mode, i) / 4;
     let cy = partition_offset_y(call.mode, i) / 4;
-    let cols = motion.cols;
-    let rows = motion.rows;
-    let from = predict_mv(near, marked, cols, rows, column, row, cx, cy, wide, high);
+    let grid = motion.grid;
+    let from = predict_mv(near, marked, grid, column, row, cx, cy, wide, high);
     let px = from.x;
     let py = from.y;
     let precision = motion.precision;
@@ -155,15 +154,15 @@ fn read_vectors(
     motion: Motion,
 ) -> VectorsAnswer
     requires { ⌜ InGrid motion × (length (now bits) < 2 ^ 61) ⌝ }
-    requires { ⌜ (length (now mv) ≡ 2 * cellCount (motion .cols) (motion .rows)) × (length (now marks) ≡ cellCount (motion .cols) (motion .rows)) × (now vectors ≡ noVectors) ⌝ }
-    ensures { λ r. ⌜ Vectoring at (readVectors (motion .call) (motion .precision) (numMotionVectors (motion .call .mode)) 0 (atFirst (lentField (motion .cols) (motion .rows) (now (mv .entry)) (now (marks .entry)))) (drop at (bitList (now (bits .entry))))) r (now (vectors .exit)) ⌝ }
+    requires { ⌜ (length (now mv) ≡ 2 * cellCount (motion .grid .cols) (motion .grid .rows)) × (length (now marks) ≡ cellCount (motion .grid .cols) (motion .grid .rows)) × (now vectors ≡ noVectors) ⌝ }
+    ensures { λ r. ⌜ Vectoring at (readVectors (motion .call) (motion .precision) (numMotionVectors (motion .call .mode)) 0 (atFirst (lentField (motion .grid .cols) (motion .grid .rows) (now (mv .entry)) (now (marks .entry)))) (drop at (bitList (now (bits .entry))))) r (now (vectors .exit)) ⌝ }
 {
     let mut near: [i32; 60] = [0; 60];
     let mut marked: [u8; 30] = [0; 30];
     let call = motion.call;
     let column = call.column as usize;
     let row = call.row as usize;
-    load_neighbours(&mut near, &mut marked, mv, marks, motion.cols, column, row);
+    load_neighbours(&mut near, &mut marked, mv, marks, motion.grid, column, row);
     let n = num_motion_vectors(call.mode);
     let mut p = at;
     let mut clipped = 0;
@@ -254,21 +253,19 @@ pub fn read_coded(
     marks: &[u8],
     bits: &[u8],
     at: usize,
-    cols: usize,
-    rows: usize,
+    grid: Grid,
     call: Call,
     flags: Flags,
     quantiser: u32,
 ) -> ReadAnswer
-    requires { ⌜ Within cols rows (call .column) (call .row) × (call .mode ≤ 7) × (quantiser ≤ 31) × (length (now bits) < 2 ^ 61) ⌝ }
-    requires { ⌜ (length (now mv) ≡ 2 * cellCount cols rows) × (length (now marks) ≡ cellCount cols rows) × (now vectors ≡ noVectors) × (now levels ≡ noLevels) ⌝ }
-    ensures { λ r. ⌜ Reading at (readCoded (lentContext cols rows (now (mv .entry)) (now (marks .entry)) flags quantiser) call (drop at (bitList (now (bits .entry))))) r (now (vectors .exit)) (now (levels .exit)) ⌝ }
+    requires { ⌜ Within (grid .cols) (grid .rows) (call .column) (call .row) × (call .mode ≤ 7) × (quantiser ≤ 31) × (length (now bits) < 2 ^ 61) ⌝ }
+    requires { ⌜ (length (now mv) ≡ 2 * cellCount (grid .cols) (grid .rows)) × (length (now marks) ≡ cellCount (grid .cols) (grid .rows)) × (now vectors ≡ noVectors) × (now levels ≡ noLevels) ⌝ }
+    ensures { λ r. ⌜ Reading at (readCoded (lentContext (grid .cols) (grid .rows) (now (mv .entry)) (now (marks .entry)) flags quantiser) call (drop at (bitList (now (bits .entry))))) r (now (vectors .exit)) (now (levels .exit)) ⌝ }
 {
     match read_inter_mv_precision_p_frame(bits, at, flags.thirdpel, flags.halfpel) {
         PrecisionAnswer::Precision(precision, p) => {
             let motion = Motion {
-                cols,
-                rows,
+                grid,
                 call,
                 precision,
             };

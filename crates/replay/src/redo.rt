@@ -9,6 +9,7 @@ ghost use Rattle.macroblock.specs.Entry.{stateBefore, stateAfter};
 ghost use Rattle.replay.specs.InnerStepped.{Stepped};
 use apply::applied::apply_coded;
 use apply::applied::apply_skip;
+use picture::Grid;
 use record::Head;
 use state::Frame;
 use transcript::parse::ParseAnswer;
@@ -50,6 +51,10 @@ fn replay_coded(
     else {
         return Step { quantiser, next };
     };
+    let grid = Grid {
+        cols: frame.cols as usize,
+        rows: frame.rows as usize,
+    };
     apply_coded(
         y,
         cb,
@@ -61,8 +66,7 @@ fn replay_coded(
         rcr,
         &vectors,
         &levels,
-        frame.cols as usize,
-        frame.rows as usize,
+        grid,
         coded,
     );
     Step {
@@ -93,6 +97,10 @@ pub fn replay_record(
 {
     match parse_place(bytes, at, frame.cols, frame.rows) {
         PlaceAnswer::Skip(column, row, next) => {
+            let grid = Grid {
+                cols: frame.cols as usize,
+                rows: frame.rows as usize,
+            };
             apply_skip(
                 y,
                 cb,
@@ -102,8 +110,7 @@ pub fn replay_record(
                 ry,
                 rcb,
                 rcr,
-                frame.cols as usize,
-                frame.rows as usize,
+                grid,
                 column as usize,
                 row as usize,
             );

@@ -46,8 +46,8 @@ module _ {cols rows column row : ℕ} (g : Within cols rows column row) where
 
   -- what `load_neighbours` leaves
   pub follows-start : {mv near : List ℤ} {marks marked : List ℕ} → length mv ≡ 2 * cellCount cols rows → length marks ≡ cellCount cols rows
-      → ((n : ℕ) → row < n → (wide high : ℕ) → Seen wide high (lentField cols n mv marks) column row near marked) → (wide high : ℕ) → Follows wide high (lentField cols rows mv marks) cols rows column row near marked
-  follows-start e k s wide high = record { same-cols = refl; same-rows = refl; sized = record { numbers = e; cells = k }; seen = s rows (g .down) wide high }
+      → ((wide high : ℕ) → Seen wide high (lentField cols rows mv marks) column row near marked) → (wide high : ℕ) → Follows wide high (lentField cols rows mv marks) cols rows column row near marked
+  follows-start e k s wide high = record { same-cols = refl; same-rows = refl; sized = record { numbers = e; cells = k }; seen = s wide high }
 
   module _ {f : Field} {near : List ℤ} {marked : List ℕ} {wide high : ℕ} (t : Follows wide high f cols rows column row near marked) (cx cy : ℕ) (p : Part cx cy wide high) where
     grid : Within (f .cols) (f .rows) column row

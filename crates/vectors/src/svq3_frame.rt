@@ -17,6 +17,7 @@ use ints::clamp_i64;
 use ints::median3;
 use ints::sat_add;
 use ints::sat_mul;
+use picture::Grid;
 
 // A component of a stored vector or of its predictor.
 pub struct Sixths(pub i32);
@@ -214,12 +215,12 @@ pub fn mark_row(marks: &mut [u8], at: usize, n: usize)
 }
 
 // A skipped macroblock: its sixteen cells get vector 0, marked 1.
-pub fn mark_macroblock(mv: &mut [i32], marks: &mut [u8], cols: usize, column: usize, row: usize)
-    requires { ⌜ (cols ≤ 4096) × (length (now mv) ≡ 2 * length (now marks)) × Inside (4 * cols) (4 * column) (4 * row) 4 4 (length (now marks)) ⌝ }
-    ensures { λ _. ⌜ now (mv .exit) ≡ storedVectors (now (mv .entry)) (4 * cols) (4 * column) (4 * row) 4 4 (pos 0) (pos 0) ⌝ }
-    ensures { λ _. ⌜ now (marks .exit) ≡ storedMarks (now (marks .entry)) (4 * cols) (4 * column) (4 * row) 4 4 ⌝ }
+pub fn mark_macroblock(mv: &mut [i32], marks: &mut [u8], grid: Grid, column: usize, row: usize)
+    requires { ⌜ (grid .cols ≤ 4096) × (length (now mv) ≡ 2 * length (now marks)) × Inside (4 * grid .cols) (4 * column) (4 * row) 4 4 (length (now marks)) ⌝ }
+    ensures { λ _. ⌜ now (mv .exit) ≡ storedVectors (now (mv .entry)) (4 * grid .cols) (4 * column) (4 * row) 4 4 (pos 0) (pos 0) ⌝ }
+    ensures { λ _. ⌜ now (marks .exit) ≡ storedMarks (now (marks .entry)) (4 * grid .cols) (4 * column) (4 * row) 4 4 ⌝ }
 {
-    let stride = 4 * cols;
+    let stride = 4 * grid.cols;
     let x = 4 * column;
     let y = 4 * row;
     let mut r = 0;

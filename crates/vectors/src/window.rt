@@ -20,6 +20,7 @@ use crate::svq3_frame::Vector;
 use crate::svq3_frame::combined;
 use crate::svq3_frame::held_in;
 use crate::svq3_frame::median_of;
+use picture::Grid;
 
 // The cell above and to the left of (x, y), as cell k of the window; marked 0 off the picture.
 fn load_cell(
@@ -125,21 +126,21 @@ fn load_row(
     }
 }
 
-// The window of a macroblock, in a picture of any number of rows that has it.
+// The window of a macroblock.
 pub fn load_neighbours(
     near: &mut [i32; 60],
     marked: &mut [u8; 30],
     mv: &[i32],
     marks: &[u8],
-    cols: usize,
+    grid: Grid,
     column: usize,
     row: usize,
 )
     requires { ⌜ Window (now near) (now marked) ⌝ }
-    requires { ⌜ (cols ≤ 4096) × (length (now mv) ≡ 2 * length (now marks)) × Inside (4 * cols) (4 * column) (4 * row) 4 4 (length (now marks)) ⌝ }
-    ensures { λ _. ⌜ ((rows : ℕ) → row < rows → (wide high : ℕ) → Seen wide high (lentField cols rows (now (mv .entry)) (now (marks .entry))) column row (now (near .exit)) (now (marked .exit))) ⌝ }
+    requires { ⌜ (grid .cols ≤ 4096) × (row < grid .rows) × (length (now mv) ≡ 2 * length (now marks)) × Inside (4 * grid .cols) (4 * column) (4 * row) 4 4 (length (now marks)) ⌝ }
+    ensures { λ _. ⌜ ((wide high : ℕ) → Seen wide high (lentField (grid .cols) (grid .rows) (now (mv .entry)) (now (marks .entry))) column row (now (near .exit)) (now (marked .exit))) ⌝ }
 {
-    let whole = (0 < column) & (0 < row) & (column + 1 < cols);
+    let whole = (0 < column) & (0 < row) & (column + 1 < grid.cols);
     let mut r = 0;
     while r < 5 {
         load_row(
@@ -147,7 +148,7 @@ pub fn load_neighbours(
             marked,
             mv,
             marks,
-            cols,
+            grid.cols,
             column,
             4 * row + r,
             r * 6,
@@ -213,8 +214,7 @@ fn predicted(near: &[i32; 60], marked: &[u8; 30], a: usize, b: usize, c: usize) 
 pub fn predict_mv(
     near: &[i32; 60],
     marked: &[u8; 30],
-    cols: usize,
-    rows: usize,
+    grid: Grid,
     column: usize,
     row: usize,
     cx: usize,
@@ -222,8 +222,8 @@ pub fn predict_mv(
     wide: usize,
     high: usize,
 ) -> Vector
-    requires { ⌜ Within cols rows column row × Part cx cy wide high ⌝ }
-    ensures { λ r. ⌜ ((f : Field) → f .cols ≡ cols → f .rows ≡ rows → Seen wide high f column row (now (near .entry)) (now (marked .entry)) → r ≡ predictor f (4 * column + cx) (4 * row + cy) wide high) ⌝ }
+    requires { ⌜ Within (grid .cols) (grid .rows) column row × Part cx cy wide high ⌝ }
+    ensures { λ r. ⌜ ((f : Field) → f .cols ≡ grid .cols → f .rows ≡ grid .rows → Seen wide high f column row (now (near .entry)) (now (marked .entry)) → r ≡ predictor f (4 * column + cx) (4 * row + cy) wide high) ⌝ }
 {
     let d = cy * 6 + cx;
     let c = marked_or(marked, d + 1 + wide, d);
@@ -231,8 +231,8 @@ pub fn predict_mv(
     let px = p.x;
     let py = p.y;
     Vector {
-        x: held_in(16 * cols, 4 * (4 * column + cx), 4 * wide, px),
-        y: held_in(16 * rows, 4 * (4 * row + cy), 4 * high, py),
+        x: held_in(16 * grid.cols, 4 * (4 * column + cx), 4 * wide, px),
+        y: held_in(16 * grid.rows, 4 * (4 * row + cy), 4 * high, py),
     }
 }
 

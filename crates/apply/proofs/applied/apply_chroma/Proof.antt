@@ -33,11 +33,11 @@ returns c =
     let coded = no-skip (a .head .mode) (s .pre .0 .3) in
     let moved = c .before .before .before .before .before .before .before .before .before .before .before .before .compensate-chroma .ensures in (
       c .before .before .before .before .before .before .add-chroma .ensures
-          ∙ ap (λ (p : List ℕ). chromaAdded 0 (a .cols) (a .head) (a .levels .now) p) (moved .0)
-          ∙ sym (coded-chroma (a .cols) (a .rows) (a .rcb .now) (recordOf (a .head) (a .vectors .now) (a .levels .now)) (a .cb .now) 0 coded),
+          ∙ ap (λ (p : List ℕ). chromaAdded 0 (a .grid .cols) (a .head) (a .levels .now) p) (moved .0)
+          ∙ sym (coded-chroma (a .grid .cols) (a .grid .rows) (a .rcb .now) (recordOf (a .head) (a .vectors .now) (a .levels .now)) (a .cb .now) 0 coded),
       c .before .before .add-chroma2 .ensures
-          ∙ ap (λ (p : List ℕ). chromaAdded 1 (a .cols) (a .head) (a .levels .now) p) (moved .1)
-          ∙ sym (coded-chroma (a .cols) (a .rows) (a .rcr .now) (recordOf (a .head) (a .vectors .now) (a .levels .now)) (a .cr .now) 1 coded),
+          ∙ ap (λ (p : List ℕ). chromaAdded 1 (a .grid .cols) (a .head) (a .levels .now) p) (moved .1)
+          ∙ sym (coded-chroma (a .grid .cols) (a .grid .rows) (a .rcr .now) (recordOf (a .head) (a .vectors .now) (a .levels .now)) (a .cr .now) 1 coded),
     )
 
 pub apply-chroma-spec : {M : Type 1} → statement M

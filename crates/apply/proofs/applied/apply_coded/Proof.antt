@@ -25,7 +25,7 @@ returns c =
     let a = s .args in
     let chroma = c .before .before .before .before .before .before .before .before .before .before .apply-chroma .ensures in
     let stored = c .before .before .before .store-partitions .ensures in
-    let field = coded-field (recordOf (a .head) (a .vectors .now) (a .levels .now)) (lentField (a .cols) (a .rows) (a .mv .now) (a .marks .now)) (no-skip (a .head .mode) (s .pre .0 .3)) in
+    let field = coded-field (recordOf (a .head) (a .vectors .now) (a .levels .now)) (lentField (a .grid .cols) (a .grid .rows) (a .mv .now) (a .marks .now)) (no-skip (a .head .mode) (s .pre .0 .3)) in
     (c .before .before .before .before .before .before .before .before .before .before .before .before .before .before .before .apply-luma .ensures, (chroma .0, (chroma .1, (stored .0 ∙ sym (ap (λ (f : Field). f .mv) field), stored .1 ∙ sym (ap (λ (f : Field). f .marks) field)))))
 
 pub apply-coded-spec : {M : Type 1} → statement M

@@ -24,8 +24,8 @@ returns c =
     let s = c .before .before .before .before .before .before .before .before .before .before in
     let a = s .args in
     c .before .before .add-luma .ensures
-    ∙ ap (λ (p : List ℕ). lumaUpTo 16 (a .cols) (a .head) (a .levels .now) p) (c .before .before .before .before .before .before .compensate-luma .ensures)
-    ∙ sym (coded-luma (a .cols) (a .rows) (a .reference .now) (recordOf (a .head) (a .vectors .now) (a .levels .now)) (a .pic .now) (no-skip (a .head .mode) (s .pre .0 .3)))
+    ∙ ap (λ (p : List ℕ). lumaUpTo 16 (a .grid .cols) (a .head) (a .levels .now) p) (c .before .before .before .before .before .before .compensate-luma .ensures)
+    ∙ sym (coded-luma (a .grid .cols) (a .grid .rows) (a .reference .now) (recordOf (a .head) (a .vectors .now) (a .levels .now)) (a .pic .now) (no-skip (a .head .mode) (s .pre .0 .3)))
 
 pub apply-luma-spec : {M : Type 1} → statement M
 apply-luma-spec =

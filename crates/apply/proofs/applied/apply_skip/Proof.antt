@@ -20,14 +20,14 @@ returns c =
     let a = s .args in
     let p = c .before .before .before .before .before .before .before .before .before .before .before .before .copy-macroblock-from .ensures in
     let m = c .before .before .before .mark-macroblock .ensures in (
-      p .0 ∙ sym (skipped-luma (a .cols) (a .rows) (a .ry .now) (a .column) (a .row) (a .y .now)),
+      p .0 ∙ sym (skipped-luma (a .grid .cols) (a .grid .rows) (a .ry .now) (a .column) (a .row) (a .y .now)),
       (
-        p .1 .0 ∙ sym (skipped-chroma 0 (a .cols) (a .rows) (a .rcb .now) (a .column) (a .row) (a .cb .now)),
+        p .1 .0 ∙ sym (skipped-chroma 0 (a .grid .cols) (a .grid .rows) (a .rcb .now) (a .column) (a .row) (a .cb .now)),
         (
-          p .1 .1 ∙ sym (skipped-chroma 1 (a .cols) (a .rows) (a .rcr .now) (a .column) (a .row) (a .cr .now)),
+          p .1 .1 ∙ sym (skipped-chroma 1 (a .grid .cols) (a .grid .rows) (a .rcr .now) (a .column) (a .row) (a .cr .now)),
           (
-            m .0 ∙ sym (skipped-mv (a .cols) (a .rows) (a .column) (a .row) (a .mv .now) (a .marks .now)),
-            m .1 ∙ sym (skipped-marks (a .cols) (a .rows) (a .column) (a .row) (a .mv .now) (a .marks .now)),
+            m .0 ∙ sym (skipped-mv (a .grid .cols) (a .grid .rows) (a .column) (a .row) (a .mv .now) (a .marks .now)),
+            m .1 ∙ sym (skipped-marks (a .grid .cols) (a .grid .rows) (a .column) (a .row) (a .mv .now) (a .marks .now)),
           ),
         ),
       ),

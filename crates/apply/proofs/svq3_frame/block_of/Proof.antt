@@ -10,17 +10,17 @@ use Rattle.apply.proofs.svq3_frame.block_of.Statement.{statement}
 use Rattle.apply.proofs.svq3_frame.block_of.Tie as tie
 
 add-over : tie.Need-add-over
-add-over c = let s = c .before .before .before .before in omega (arith, c .partition-offset-x .ensures, inside (s .args .call .mode) (s .args .i) (s .pre .1) (s .pre .2))
+add-over c = let s = c .before .before .before .before .before in omega (arith, c .partition-offset-x .ensures, inside (s .args .call .mode) (s .args .i) (s .pre .1) (s .pre .2))
 
 add-over-2 : tie.Need-add-over-2
-add-over-2 c = let s = c .before .before .before .before .before .before in omega (arith, c .partition-offset-y .ensures, inside (s .args .call .mode) (s .args .i) (s .pre .1) (s .pre .2))
+add-over-2 c = let s = c .before .before .before .before .before .before .before in omega (arith, c .partition-offset-y .ensures, inside (s .args .call .mode) (s .args .i) (s .pre .1) (s .pre .2))
 
 returns : tie.Need-returns
 unfolding partX partY
 returns c =
-    let a = c .before .before .before .before .before .before .before .before .before .before .before .args in
+    let a = c .before .before .before .before .before .before .before .before .before .before .before .before .args in
     let u = unit (a .chroma) in
-    let stride = ap (λ (n : ℕ). n * a .cols) (c .before .before .before .before .before .before .before .before .over .ensures) in
+    let stride = ap (λ (n : ℕ). n * a .grid .cols) (c .before .before .before .before .before .before .before .before .before .over .ensures) in
     let x = c .before .before .before .before .before .before .over2 .ensures ∙ ap (λ (o : ℕ). (16 * a .call .column + o) / u) (c .before .before .before .before .before .before .before .partition-offset-x .ensures) in
     let y = c .before .before .before .before .over3 .ensures ∙ ap (λ (o : ℕ). (16 * a .call .row + o) / u) (c .before .before .before .before .before .partition-offset-y .ensures) in
     let w = c .before .before .over4 .ensures ∙ ap (λ (o : ℕ). o / u) (c .before .before .before .partition-width .ensures) in
@@ -34,7 +34,7 @@ block-of-spec =
     (λ c. search needs)
     (λ c. search needs)
     (λ c κs. search needs)
-    (λ c. omega (arith, few (c .before .before .before .args .chroma) _ (c .before .before .before .args .cols) (c .over .ensures) (c .before .before .before .pre .0)))
+    (λ c. omega (arith, few (c .before .before .before .before .args .chroma) _ (c .before .before .before .before .args .grid .cols) (c .before .over .ensures) (c .before .before .before .before .pre .0)))
     (λ c. search needs)
     (λ c κs. search needs)
     add-over

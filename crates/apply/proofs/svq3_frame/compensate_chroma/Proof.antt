@@ -12,10 +12,10 @@ use Rattle.apply.proofs.svq3_frame.compensate_chroma.Statement.{stateme
 use Rattle.apply.proofs.svq3_frame.compensate_chroma.Tie as tie
 
 abbrev Inv-loop : tie.InvT-loop
-Inv-loop cb₀ cr₀ rcb rcr vectors cols rows call n k₀ cb cr k = (k ≤ n) × (cb ≡ movedUpTo k (unit true) cols rows rcb call vectors cb₀) × (cr ≡ movedUpTo k (unit true) cols rows rcr call vectors cr₀)
+Inv-loop cb₀ cr₀ rcb rcr vectors grid call n k₀ cb cr k = (k ≤ n) × (cb ≡ movedUpTo k (unit true) (grid .cols) (grid .rows) rcb call vectors cb₀) × (cr ≡ movedUpTo k (unit true) (grid .cols) (grid .rows) rcr call vectors cr₀)
 
 abbrev μ-loop : tie.MeasureT-loop
-μ-loop cb₀ cr₀ rcb rcr vectors cols rows call n k₀ cb cr k = n - k
+μ-loop cb₀ cr₀ rcb rcr vectors grid call n k₀ cb cr k = n - k
 
 loop-holds : tie.Need-loop-holds Inv-loop μ-loop
 unfolding movedUpTo
@@ -35,8 +35,8 @@ loop-again c =
     let l = c .before .before .before .before .before .before .before .before .loop in
     let p = c .before .before .before .before .compensate-pair .ensures in (
       omega arith,
-      moved-more (l .k) (unit true) (a .cols) (a .rows) (a .rcb .now) (a .call) (a .vectors .now) (a .cb .now) (l .inv .1) (p .0),
-      moved-more (l .k) (unit true) (a .cols) (a .rows) (a .rcr .now) (a .call) (a .vectors .now) (a .cr .now) (l .inv .2) (p .1),
+      moved-more (l .k) (unit true) (a .grid .cols) (a .grid .rows) (a .rcb .now) (a .call) (a .vectors .now) (a .cb .now) (l .inv .1) (p .0),
+      moved-more (l .k) (unit true) (a .grid .cols) (a .grid .rows) (a .rcr .now) (a .call) (a .vectors .now) (a .cr .now) (l .inv .2) (p .1),
     )
 
 returns : tie.Need-returns Inv-loop μ-loop
@@ -44,8 +44,8 @@ returns c =
     let a = c .before .before .before .before .before .before .before .args in
     let l = c .before .loop in
     let e : l .k ≡ numMotionVectors (a .call .mode) = omega (arith, c .before .before .num-motion-vectors .ensures) in (
-      l .inv .1 ∙ ap (λ (n : ℕ). movedUpTo n (unit true) (a .cols) (a .rows) (a .rcb .now) (a .call) (a .vectors .now) (a .cb .now)) e,
-      l .inv .2 ∙ ap (λ (n : ℕ). movedUpTo n (unit true) (a .cols) (a .rows) (a .rcr .now) (a .call) (a .vectors .now) (a .cr .now)) e,
+      l .inv .1 ∙ ap (λ (n : ℕ). movedUpTo n (unit true) (a .grid .cols) (a .grid .rows) (a .rcb .now) (a .call) (a .vectors .now) (a .cb .now)) e,
+      l .inv .2 ∙ ap (λ (n : ℕ). movedUpTo n (unit true) (a .grid .cols) (a .grid .rows) (a .rcr .now) (a .call) (a .vectors .now) (a .cr .now)) e,
     )
 
 pub compensate-chroma-spec : {M : Type 1} → statement M

@@ -12,10 +12,10 @@ use Rattle.apply.proofs.svq3_frame.compensate_luma.Statement.{statement
 use Rattle.apply.proofs.svq3_frame.compensate_luma.Tie as tie
 
 abbrev Inv-loop : tie.InvT-loop
-Inv-loop pic₀ reference vectors cols rows call n i₀ pic i = (i ≤ n) × (pic ≡ movedUpTo i (unit false) cols rows reference call vectors pic₀)
+Inv-loop pic₀ reference vectors grid call n i₀ pic i = (i ≤ n) × (pic ≡ movedUpTo i (unit false) (grid .cols) (grid .rows) reference call vectors pic₀)
 
 abbrev μ-loop : tie.MeasureT-loop
-μ-loop pic₀ reference vectors cols rows call n i₀ pic i = n - i
+μ-loop pic₀ reference vectors grid call n i₀ pic i = n - i
 
 loop-holds : tie.Need-loop-holds Inv-loop μ-loop
 unfolding movedUpTo
@@ -33,14 +33,14 @@ loop-again : tie.Need-loop-again Inv-loop μ-loop
 loop-again c =
     let a = c .before .before .before .before .before .before .before .before .before .args in (
       omega arith,
-      moved-more (c .before .before .before .before .before .loop .i) (unit false) (a .cols) (a .rows) (a .reference .now) (a .call) (a .vectors .now) (a .pic .now) (c .before .before .before .before .before .loop .inv .1) (c .before .before .compensate-partition .ensures),
+      moved-more (c .before .before .before .before .before .loop .i) (unit false) (a .grid .cols) (a .grid .rows) (a .reference .now) (a .call) (a .vectors .now) (a .pic .now) (c .before .before .before .before .before .loop .inv .1) (c .before .before .compensate-partition .ensures),
     )
 
 returns : tie.Need-returns Inv-loop μ-loop
 returns c =
     let a = c .before .before .before .before .before .args in
     let e : c .before .loop .i ≡ numMotionVectors (a .call .mode) = omega (arith, c .before .before .num-motion-vectors .ensures) in
-    c .before .loop .inv .1 ∙ ap (λ (n : ℕ). movedUpTo n (unit false) (a .cols) (a .rows) (a .reference .now) (a .call) (a .vectors .now) (a .pic .now)) e
+    c .before .loop .inv .1 ∙ ap (λ (n : ℕ). movedUpTo n (unit false) (a .grid .cols) (a .grid .rows) (a .reference .now) (a .call) (a .vectors .now) (a .pic .now)) e
 
 pub compensate-luma-spec : {M : Type 1} → statement M
 compensate-luma-spec =

@@ -14,14 +14,14 @@ use Rattle.apply.proofs.svq3_recon.add_quadrant.Tie as tie
 
 add-luma-quadrant-requires : tie.Need-add-luma-quadrant-requires
 add-luma-quadrant-requires c κs =
-    let s = c .before .before .before .before .before .before .before in
+    let s = c .before .before .before .before .before .before .before .before in
     (quadrant-inside (s .args .q) (s .pre .0 .1) (plane-inside 16 (lit< tt) (s .pre .0 .0) (s .pre .1 .0)), (omega (arith, s .pre .0 .1, s .pre .1 .1), s .pre .1 .3))
 
 returns : tie.Need-returns
 unfolding quadrantAdded if_then_else_
 returns c =
-    let s = c .before .before .before .before .before .before .before .before .before .before in
-    let e : quadrantCoded (s .args .head .pattern) (s .args .q) ≡ true = sym (c .before .before .before .before .before .before .before .luma-quadrant-coded .ensures) ∙ c .before .before .before .before .before .before .if1 .taken in
+    let s = c .before .before .before .before .before .before .before .before .before .before .before in
+    let e : quadrantCoded (s .args .head .pattern) (s .args .q) ≡ true = sym (c .before .before .before .before .before .before .before .before .luma-quadrant-coded .ensures) ∙ c .before .before .before .before .before .before .before .if1 .taken in
     rw e (c .before .before .add-luma-quadrant .ensures)
 
 returns-2 : tie.Need-returns-2

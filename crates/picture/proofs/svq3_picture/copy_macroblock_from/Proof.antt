@@ -6,13 +6,13 @@ use Rattle.picture.proofs.svq3_picture.copy_macroblock_from.Statement.{
 use Rattle.picture.proofs.svq3_picture.copy_macroblock_from.Tie as tie
 
 copy-block-requires : tie.Need-copy-block-requires
-copy-block-requires c κs = let p = c .before .before .before .before .before .before .before .pre in (lit≤ tt, plane-inside 16 (lit< tt) (p .0) (search needs), plane-inside 16 (lit< tt) (p .0) (search needs))
+copy-block-requires c κs = let p = c .before .before .before .before .before .before .before .before .before .pre in (lit≤ tt, plane-inside 16 (lit< tt) (p .0) (search needs), plane-inside 16 (lit< tt) (p .0) (search needs))
 
 copy-block-requires-2 : tie.Need-copy-block-requires-2
-copy-block-requires-2 c κs = let p = c .before .before .before .before .before .before .before .before .before .before .before .pre in (lit≤ tt, plane-inside 8 (lit< tt) (p .0) (search needs), plane-inside 8 (lit< tt) (p .0) (search needs))
+copy-block-requires-2 c κs = let p = c .before .before .before .before .before .before .before .before .before .before .before .before .before .pre in (lit≤ tt, plane-inside 8 (lit< tt) (p .0) (search needs), plane-inside 8 (lit< tt) (p .0) (search needs))
 
 copy-block-requires-3 : tie.Need-copy-block-requires-3
-copy-block-requires-3 c κs = let p = c .before .before .before .before .before .before .before .before .before .before .before .before .before .before .before .pre in (lit≤ tt, plane-inside 8 (lit< tt) (p .0) (search needs), plane-inside 8 (lit< tt) (p .0) (search needs))
+copy-block-requires-3 c κs = let p = c .before .before .before .before .before .before .before .before .before .before .before .before .before .before .before .before .before .pre in (lit≤ tt, plane-inside 8 (lit< tt) (p .0) (search needs), plane-inside 8 (lit< tt) (p .0) (search needs))
 
 returns : tie.Need-returns
 returns c = (c .before .before .before .before .before .before .before .before .before .before .copy-block .ensures, (c .before .before .before .before .before .before .copy-block2 .ensures, c .before .before .copy-block3 .ensures))

@@ -9,7 +9,7 @@ use Rattle.reading.proofs.svq3_frame.read_coded.Statement.{statement}
 use Rattle.reading.proofs.svq3_frame.read_coded.Tie as tie
 
 abbrev context : tie.Start → Context
-context s = let a = s .args in lentContext (a .cols) (a .rows) (a .mv .now) (a .marks .now) (a .flags) (a .quantiser)
+context s = let a = s .args in lentContext (a .grid .cols) (a .grid .rows) (a .mv .now) (a .marks .now) (a .flags) (a .quantiser)
 
 returns : tie.Need-returns
 returns c =

@@ -18,7 +18,7 @@ use Rattle.reading.proofs.svq3_frame.read_vectors.Tie as tie
 
 abbrev Inv-loop : tie.InvT-loop
 Inv-loop vectors₀ mv marks bits at motion near₀ marked₀ column row n p₀ clipped₀ i₀ vectors near marked p clipped i =
-    (length vectors ≡ 32) × ((m : Moving) × Going motion n (atFirst (lentField (motion .cols) (motion .rows) mv marks)) (bitList bits) at i p m × Holds m motion clipped vectors near marked)
+    (length vectors ≡ 32) × ((m : Moving) × Going motion n (atFirst (lentField (motion .grid .cols) (motion .grid .rows) mv marks)) (bitList bits) at i p m × Holds m motion clipped vectors near marked)
 
 abbrev μ-loop : tie.MeasureT-loop
 μ-loop vectors₀ mv marks bits at motion near₀ marked₀ column row n p₀ clipped₀ i₀ vectors near marked p clipped i =
@@ -31,7 +31,7 @@ cast-row : tie.Need-cast-row Inv-loop μ-loop
 cast-row c = search needs
 
 load-neighbours-requires : tie.Need-load-neighbours-requires Inv-loop μ-loop
-load-neighbours-requires c κs = let s = c .before .before .before .before .before .before .before in (record { numbers = refl; cells = refl }, (s .pre .0 .0 .within .wide, omega (arith, s .pre .1 .0, s .pre .1 .1), macroblock-cells (s .pre .0 .0 .within) (s .pre .1 .1)))
+load-neighbours-requires c κs = let s = c .before .before .before .before .before .before .before in (record { numbers = refl; cells = refl }, (s .pre .0 .0 .within .wide, s .pre .0 .0 .within .down, omega (arith, s .pre .1 .0, s .pre .1 .1), macroblock-cells (s .pre .0 .0 .within) (s .pre .1 .1)))
 
 num-motion-vectors-requires : tie.Need-num-motion-vectors-requires Inv-loop μ-loop
 num-motion-vectors-requires c κs = search needs
@@ -41,7 +41,7 @@ unfolding atFirst
 loop-holds c =
     let s = c .before .before .before .before .before .before .before .before .before in
     let a = s .args in
-    let f = lentField (a .motion .cols) (a .motion .rows) (a .mv .now) (a .marks .now) in
+    let f = lentField (a .motion .grid .cols) (a .motion .grid .rows) (a .mv .now) (a .marks .now) in
     (ap length (s .pre .1 .2) ∙ length-noVectors, (atFirst f, begins (a .motion) (c .num-motion-vectors .result) (atFirst f) (bitList (a .bits .now)) (a .at), record { count = refl; stored = s .pre .1 .2; follows = follows-start (s .pre .0 .0 .within) (s .pre .1 .0) (s .pre .1 .1) (c .before .load-neighbours .ensures) (partitionWidth (a .motion .call .mode) / 4) (partitionHeight (a .motion .call .mode) / 4) }))
 
 read-partition-requires : tie.Need-read-partition-requires Inv-loop μ-loop

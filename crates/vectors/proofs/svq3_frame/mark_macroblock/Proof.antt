@@ -14,21 +14,21 @@ use Rattle.vectors.proofs.svq3_frame.mark_macroblock.Statement.{stateme
 use Rattle.vectors.proofs.svq3_frame.mark_macroblock.Tie as tie
 
 abbrev Inv-loop : tie.InvT-loop
-Inv-loop mv₀ marks₀ cols column row stride x y r₀ mv marks r =
+Inv-loop mv₀ marks₀ column row stride x y r₀ mv marks r =
     (r ≤ 4) × (length mv ≡ length mv₀) × (length marks ≡ length marks₀)
     × (mv ≡ rows mv₀ (2 * stride) (2 * x) y (pairOf (pos 0) (pos 0)) 8 r)
     × (marks ≡ rows marks₀ stride x y (always 1) 4 r)
 
 abbrev μ-loop : tie.MeasureT-loop
-μ-loop mv₀ marks₀ cols column row stride x y r₀ mv marks r = 4 - r
+μ-loop mv₀ marks₀ column row stride x y r₀ mv marks r = 4 - r
 
 loop-holds : tie.Need-loop-holds Inv-loop μ-loop
 unfolding rows
 loop-holds c = (omega arith, refl, refl, refl, refl)
 
 -- the row of a turn lies within
-lies : (c : tie.In-loop Inv-loop μ-loop) → let a = c .before .before .before .args in Row (4 * a .cols) (4 * a .column) (4 * a .row) 4 (c .before .loop .r) (length (now (a .marks)))
-lies c = inside-row (c .before .before .before .pre .2) (c .loop-test .taken)
+lies : (c : tie.In-loop Inv-loop μ-loop) → let a = c .before .before .before .before .args in Row (4 * a .grid .cols) (4 * a .column) (4 * a .row) 4 (c .before .loop .r) (length (now (a .marks)))
+lies c = inside-row (c .before .before .before .before .pre .2) (c .loop-test .taken)
 
 loop-again : tie.Need-loop-again Inv-loop μ-loop
 unfolding always
@@ -46,7 +46,7 @@ loop-again c =
 returns : tie.Need-returns Inv-loop μ-loop
 unfolding storedVectors storedMarks filled
 returns c =
-    let s = c .before .before .before in
+    let s = c .before .before .before .before in
     let i = c .before .loop .inv in
     let e : c .before .loop .r ≡ 4 = omega arith in (
       i .3 ∙ rw e (rows-painted (pos 0) _ _ (pairs-inside (s .pre .1) (s .pre .2))),
@@ -60,8 +60,8 @@ mark-macroblock-spec =
     Inv-loop
     μ-loop
     (λ c. omega arith)
-    (λ c. omega (arith, c .before .pre .2 .across))
-    (λ c. omega (arith, inside-row {r = 0} (c .before .pre .2) (omega arith)))
+    (λ c. omega (arith, c .before .before .pre .2 .across))
+    (λ c. omega (arith, inside-row {r = 0} (c .before .before .pre .2) (omega arith)))
     loop-holds
     (λ c. omega (arith, lies c))
     (λ c. omega (arith, lies c))

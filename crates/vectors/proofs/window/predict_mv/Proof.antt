@@ -12,7 +12,7 @@ use Rattle.vectors.proofs.window.predict_mv.Tie as tie
 returns : tie.Need-returns
 unfolding predictor
 returns c f ec er seen =
-    let k = c .before .before .before .before in
+    let k = c .before .before .before .before .before .before in
     let o = k .before in
     let s = o .before in
     let a = s .args in
@@ -23,7 +23,7 @@ returns c f ec er seen =
     let p = k .predicted .ensures
     ∙ (λ i. combined (cellAt mv marks (d + 6)) (cellAt mv marks (d + 1)) (third-cell i))
     ∙ seen-predicted (s .pre .1) seen in
-    let x = c .before .held-in .ensures ∙ λ i. heldIn (16 * sym ec i) (4 * (4 * a .column + a .cx)) (4 * a .wide) (p i .x .0) in
+    let x = c .before .before .held-in .ensures ∙ λ i. heldIn (16 * sym ec i) (4 * (4 * a .column + a .cx)) (4 * a .wide) (p i .x .0) in
     let y = c .held-in2 .ensures ∙ λ i. heldIn (16 * sym er i) (4 * (4 * a .row + a .cy)) (4 * a .high) (p i .y .0) in
     λ i. vector (x i) (y i)
 
