@@ -8,7 +8,6 @@ ghost use Rattle.desk.specs.Given.{frameOf};
 ghost use Rattle.desk.specs.Answer.{blockCode, checkCode};
 ghost use Rattle.desk.specs.Entries.{slicesBefore, slicesAfter, ended, callOf, mbEnded, runEnded, replayEnded};
 use crate::given::frame_of;
-use crate::given::side;
 use crate::told::refused;
 use crate::told::tell_macroblock;
 use crate::told::tell_replay;
@@ -217,7 +216,7 @@ pub extern "C" fn svq3_compensate_block(
 pub extern "C" fn svq3_check_transcript(cols: u64, rows: u64, bytes: &[u8]) -> i64
     ensures { λ r. ⌜ r ≡ checkCode (checked cols rows (now (bytes .entry))) ⌝ }
 {
-    match check_transcript(bytes, side(cols), side(rows)) {
+    match check_transcript(bytes, cols as usize, rows as usize) {
         CheckAnswer::Records(n) => n as i64,
         CheckAnswer::Refused(why) => refused(why),
     }

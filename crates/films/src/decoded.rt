@@ -4,6 +4,7 @@ use crate::bytes::long_at;
 use crate::bytes::number_at;
 use crate::bytes::short_at;
 use crate::head::frame_of;
+use crate::head::grid_of;
 use crate::head::refused;
 use macroblock::MbAnswer;
 use macroblock::cursor_by;
@@ -157,7 +158,7 @@ pub fn agrees(
 // Column, row and mode of the record are the call's.
 fn placed(transcript: &[u8], at: usize, head: &[u8; 80]) -> bool {
     let call = call_of(head);
-    match parse_place(transcript, at, number_at(head, 4), number_at(head, 8)) {
+    match parse_place(transcript, at, grid_of(head)) {
         PlaceAnswer::Skip(c, r, _) => (c == call.column) & (r == call.row) & (call.mode == 0),
         PlaceAnswer::Coded(h, _) => {
             (h.column == call.column) & (h.row == call.row) & (h.mode == call.mode)
@@ -169,7 +170,7 @@ fn placed(transcript: &[u8], at: usize, head: &[u8; 80]) -> bool {
 // Whether the record is read back to the call and to its end.
 fn parses(transcript: &[u8], head: &[u8; 80]) -> bool {
     let at = short_at(head, 62);
-    match check_record(transcript, at, number_at(head, 4), number_at(head, 8)) {
+    match check_record(transcript, at, grid_of(head)) {
         RecordAnswer::Record(next) => (next == end_of(head)) & placed(transcript, at, head),
         RecordAnswer::Refused(_) => false,
     }

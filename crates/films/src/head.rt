@@ -1,6 +1,7 @@
 // What the head of a record says.
 use crate::bytes::number_at;
 use crate::bytes::wide;
+use picture::Grid;
 use refusal::Refusal;
 use state::Flags;
 use state::Frame;
@@ -22,11 +23,17 @@ pub fn refused(why: Refusal, head: &[u8; 80]) -> bool {
     (number == wide(head[2]) as u32) & (got == detail(head))
 }
 
+pub fn grid_of(head: &[u8; 80]) -> Grid {
+    Grid {
+        cols: number_at(head, 4) as usize,
+        rows: number_at(head, 8) as usize,
+    }
+}
+
 pub fn frame_of(head: &[u8; 80]) -> Frame {
     let flags = head[1];
     Frame {
-        cols: number_at(head, 4),
-        rows: number_at(head, 8),
+        grid: grid_of(head),
         flags: Flags {
             halfpel: flags % 2 == 1,
             thirdpel: flags / 2 % 2 == 1,

@@ -2,6 +2,7 @@
 use crate::bytes::number_at;
 use crate::bytes::wide;
 use crate::head::frame_of;
+use crate::head::grid_of;
 use replay::ReplayAnswer;
 use replay::replay::replay;
 use transcript::check::CheckAnswer;
@@ -64,7 +65,8 @@ pub fn agrees(
 
 // The check of a transcript alone: byte 3 has its refusal.
 pub fn check_agrees(transcript: &[u8], head: &[u8; 80]) -> bool {
-    match check_transcript(transcript, number_at(head, 4), number_at(head, 8)) {
+    let grid = grid_of(head);
+    match check_transcript(transcript, grid.cols, grid.rows) {
         CheckAnswer::Records(n) => (head[3] == 0) & (n == number_at(head, 12) as usize),
         CheckAnswer::Refused(why) => refusal::number_of(why) == wide(head[3]) as u32,
     }

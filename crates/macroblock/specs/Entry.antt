@@ -15,8 +15,8 @@ use Rattle.macroblock.specs.declared.MbAnswer.the-variants.{Accepted, Re
 abbrev pub stateOf : Frame → ℕ → List ℕ → List ℕ → List ℕ → List ℕ → List ℕ → List ℕ → List ℤ → List ℕ → State
 stateOf frame quantiser ry rcb rcr y cb cr mv marks =
     record {
-      cols = frame .cols;
-      rows = frame .rows;
+      cols = frame .grid .cols;
+      rows = frame .grid .rows;
       halfpel = frame .flags .halfpel;
       thirdpel = frame .flags .thirdpel;
       delta = frame .flags .delta;

@@ -7,7 +7,6 @@ use crate::MbAnswer;
 use crate::MbReport;
 use apply::applied::apply_coded;
 use apply::applied::apply_skip;
-use picture::Grid;
 use reading::svq3_frame::ReadAnswer;
 use reading::svq3_frame::read_coded;
 use state::Asked;
@@ -43,10 +42,7 @@ fn decode_coded(
 {
     let mut vectors = [0i32; 32];
     let mut levels = [0i32; 392];
-    let grid = Grid {
-        cols: frame.cols as usize,
-        rows: frame.rows as usize,
-    };
+    let grid = frame.grid;
     let flags = frame.flags;
     match read_coded(
         &mut vectors,
@@ -118,10 +114,6 @@ fn decode_skip(
         ≡ decoded (stateBefore frame quantiser ry rcb rcr y cb cr mv marks) call (now (bits .entry)) place (now (transcript .entry)) fill ⌝ }
 {
     let filled = put_skip(transcript, fill, call.column, call.row);
-    let grid = Grid {
-        cols: frame.cols as usize,
-        rows: frame.rows as usize,
-    };
     apply_skip(
         y,
         cb,
@@ -131,7 +123,7 @@ fn decode_skip(
         ry,
         rcb,
         rcr,
-        grid,
+        frame.grid,
         call.column as usize,
         call.row as usize,
     );
@@ -241,16 +233,7 @@ pub fn decode_inter_mb(
         rcr: rcr.len(),
     };
     let free = free_of(transcript.len(), fill);
-    match ask_call(
-        frame.cols,
-        frame.rows,
-        l,
-        made,
-        quantiser,
-        bits.len(),
-        place,
-        free,
-    ) {
+    match ask_call(frame.grid, l, made, quantiser, bits.len(), place, free) {
         Asked::Yes => decode_asked(
             y,
             cb,

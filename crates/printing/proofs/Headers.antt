@@ -74,7 +74,7 @@ module _ (s : List ℕ) (at : ℕ) (read : List ℕ → Got ℕ) where
   last-off f {why} e = rw (number-refused at (read (drop at s)) why e)
 
 abbrev headerOf : ℕ → ℕ → ℕ → ℕ → ℕ → ℕ → Header
-headerOf cols rows flags delta quantiser count = record { cols = cols; rows = rows; flags = flags; delta = delta; quantiser = quantiser; count = count }
+headerOf cols rows flags delta quantiser count = record { grid = record { cols = cols; rows = rows }; flags = flags; delta = delta; quantiser = quantiser; count = count }
 
 -- what is read behind each number
 abbrev fromCount : ℕ → ℕ → ℕ → ℕ → ℕ → List ℕ → Got Header

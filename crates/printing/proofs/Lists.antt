@@ -46,7 +46,7 @@ header-local =
     then-local (ranged-local 0 3) (λ flags.
     then-local (ranged-local 0 1) (λ delta.
     then-local (ranged-local 0 31) (λ quantiser.
-    map-local (λ count. record { cols = cols; rows = rows; flags = flags; delta = delta; quantiser = quantiser; count = count }) (ranged-local 0 16))))))
+    map-local (λ count. record { grid = record { cols = cols; rows = rows }; flags = flags; delta = delta; quantiser = quantiser; count = count }) (ranged-local 0 16))))))
 
 call-local : Local callIn
 unfolding callIn
@@ -73,7 +73,7 @@ ranged-most least most s v n e =
     go false w k h e = never e
 
 abbrev headerOf : ℕ → ℕ → ℕ → ℕ → ℕ → ℕ → Header
-headerOf cols rows flags delta quantiser count = record { cols = cols; rows = rows; flags = flags; delta = delta; quantiser = quantiser; count = count }
+headerOf cols rows flags delta quantiser count = record { grid = record { cols = cols; rows = rows }; flags = flags; delta = delta; quantiser = quantiser; count = count }
 
 pub header-range : (s : List ℕ) (h : Header) (n : ℕ) → headerIn s ≡ got h n → HeaderRange h
 unfolding headerIn

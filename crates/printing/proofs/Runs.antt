@@ -100,13 +100,13 @@ module _ (h : Header) (list bits : List ℕ) {result : Report} {last : List ℕ}
   unfolding transcriptOf
   part-is = (λ i. take (fill-is i) (last-is i))
 
-  pub part-recorded : Recorded (h .cols) (h .rows) (take (result .fill) last)
+  pub part-recorded : Recorded (h .grid .cols) (h .grid .rows) (take (result .fill) last)
   unfolding start
   part-recorded = rw part-is (recorded (start h) list bits 0 room)
 
-  pub lines-are : linesOf (records (h .cols) (h .rows) (take (result .fill) last)) ++ bitsLine (result .consumed) ++ stopLines (result .stop) ≡ printedRun (start h) whole
+  pub lines-are : linesOf (records (h .grid .cols) (h .grid .rows) (take (result .fill) last)) ++ bitsLine (result .consumed) ++ stopLines (result .stop) ≡ printedRun (start h) whole
   unfolding printedRun listLeft leaves start
   lines-are =
       let c : result .consumed ≡ whole .place = ap (λ (r : Report). r .consumed) (e .0) ∙ omega arith in
       let p : result .stop ≡ whole .stop = ap (λ (r : Report). r .stop) (e .0) in
-      λ i. linesOf (records (h .cols) (h .rows) (part-is i)) ++ bitsLine (c i) ++ stopLines (p i)
+      λ i. linesOf (records (h .grid .cols) (h .grid .rows) (part-is i)) ++ bitsLine (c i) ++ stopLines (p i)

@@ -16,7 +16,7 @@ use Rattle.printing.specs.Header.{HeaderRange, frameOf}
 use Rattle.printing.specs.Print.{start}
 use Rattle.printing.specs.declared.header.Header.{Header}
 
-pub grid-most : (h : Header) → HeaderRange h → h .cols * h .rows ≤ 16
+pub grid-most : (h : Header) → HeaderRange h → h .grid .cols * h .grid .rows ≤ 16
 grid-most h r = mul-le-mul (r .cols) (r .rows)
 
 pub part-length : {A : Type 0} (n m : ℕ) (v : A) → n ≤ m → n ≡ length (take n (replicate m v))
@@ -28,7 +28,7 @@ part-is n k m v e h = part-of-same n 0 m v (omega arith) ∙ ap (λ (j : ℕ). r
 
 module _ (h : Header) where
   abbrev macroblocks : ℕ
-  macroblocks = h .cols * h .rows
+  macroblocks = h .grid .cols * h .grid .rows
 
   abbrev pub buffers : Frame → State
   buffers f =

@@ -26,7 +26,7 @@ headerIn s =
     andThen (ranged 0 3 s₂) s₂ (λ flags s₃.
     andThen (ranged 0 1 s₃) s₃ (λ delta s₄.
     andThen (ranged 0 31 s₄) s₄ (λ quantiser s₅.
-    mapGot (λ count. record { cols = cols; rows = rows; flags = flags; delta = delta; quantiser = quantiser; count = count }) (ranged 0 16 s₅))))))
+    mapGot (λ count. record { grid = record { cols = cols; rows = rows }; flags = flags; delta = delta; quantiser = quantiser; count = count }) (ranged 0 16 s₅))))))
 
 -- the calls, of which there are n
 unfoldable pub callsFrom : ℕ → List ℕ → Got (List Call)
@@ -35,10 +35,10 @@ callsFrom (suc n) s = andThen (callIn s) s (λ call rest. mapGot (λ calls. call
 
 -- what a header that was read holds
 pub record HeaderRange (h : Header) : Type 0 where
-  pub cols : h .cols ≤ 4
-  pub rows : h .rows ≤ 4
+  pub cols : h .grid .cols ≤ 4
+  pub rows : h .grid .rows ≤ 4
   pub count : h .count ≤ 16
 
 -- flags are 1 half + 2 third
 abbrev pub frameOf : Header → Frame
-frameOf h = record { cols = h .cols; rows = h .rows; flags = record { halfpel = eqb (h .flags % 2) 1; thirdpel = eqb (h .flags / 2) 1; delta = eqb (h .delta) 1 } }
+frameOf h = record { grid = h .grid; flags = record { halfpel = eqb (h .flags % 2) 1; thirdpel = eqb (h .flags / 2) 1; delta = eqb (h .delta) 1 } }

@@ -24,9 +24,9 @@ use Rattle.printing.specs.declared.header.Header.{Header}
 -- the reference is 128; the picture, the vectors and the marks are 0
 unfoldable pub start : Header → State
 start h =
-    let luma = lumaLength (h .cols) (h .rows) in
-    let chroma = chromaLength (h .cols) (h .rows) in
-    let cells = cellCount (h .cols) (h .rows) in
+    let luma = lumaLength (h .grid .cols) (h .grid .rows) in
+    let chroma = chromaLength (h .grid .cols) (h .grid .rows) in
+    let cells = cellCount (h .grid .cols) (h .grid .rows) in
     stateOf (frameOf h) (h .quantiser) (replicate luma 128) (replicate chroma 128) (replicate chroma 128)
     (replicate luma 0) (replicate chroma 0) (replicate chroma 0) (replicate (2 * cells) (pos 0)) (replicate cells 0)
 

@@ -6,6 +6,7 @@ ghost use Rattle.printing.specs.Header.{ranged, headerIn, callsFrom, fra
 ghost use Rattle.printing.specs.InnerHeader.{headerAnswer, listEnd};
 use number::NumberAnswer;
 use number::read_number;
+use picture::Grid;
 use refusal::Refusal;
 use run::calls::CallAnswer;
 use run::calls::read_call;
@@ -13,8 +14,7 @@ use state::Flags;
 use state::Frame;
 
 pub struct Header {
-    pub cols: u32,
-    pub rows: u32,
+    pub grid: Grid,
     pub flags: u32,
     pub delta: u32,
     pub quantiser: u32,
@@ -79,8 +79,10 @@ pub fn read_header(input: &[u8]) -> HeaderAnswer
     match read_ranged(input, quantiser.1, 0, 16) {
         NumberAnswer::Number(count, next) => HeaderAnswer::Header(
             Header {
-                cols: cols.0,
-                rows: rows.0,
+                grid: Grid {
+                    cols: cols.0 as usize,
+                    rows: rows.0 as usize,
+                },
                 flags: flags.0,
                 delta: delta.0,
                 quantiser: quantiser.0,
@@ -114,9 +116,9 @@ pub fn read_list(input: &[u8], at: usize, count: u32) -> ListEnd
 pub fn frame_of(h: Header) -> Frame
     ensures { λ r. ⌜ r ≡ frameOf h ⌝ }
 {
+    let grid = h.grid;
     Frame {
-        cols: h.cols,
-        rows: h.rows,
+        grid,
         flags: Flags {
             halfpel: h.flags % 2 == 1,
             thirdpel: h.flags / 2 == 1,

@@ -20,6 +20,7 @@ use crate::header::read_list;
 use crate::text::put_bits;
 use crate::text::put_hex_line;
 use crate::text::put_refused;
+use picture::Grid;
 use run::Report;
 use run::Stop;
 use run::run::run;
@@ -27,15 +28,15 @@ use transcript::check::RecordAnswer;
 use transcript::check::check_record;
 
 // The records of a transcript, each on a line.
-fn put_records(out: &mut [u8], transcript: &[u8], at: usize, cols: u32, rows: u32) -> usize
-    requires { ⌜ (cols ≤ 4096) × (rows ≤ 4096) × Recorded cols rows (now transcript) ⌝ }
-    requires { ⌜ at + length (linesOf (records cols rows (now transcript))) ≤ length (now out) ⌝ }
-    ensures { λ r. ⌜ Written (now (out .entry)) at (linesOf (records cols rows (now (transcript .entry)))) r (now (out .exit)) ⌝ }
+fn put_records(out: &mut [u8], transcript: &[u8], at: usize, grid: Grid) -> usize
+    requires { ⌜ (grid .cols ≤ 4096) × (grid .rows ≤ 4096) × Recorded (grid .cols) (grid .rows) (now transcript) ⌝ }
+    requires { ⌜ at + length (linesOf (records (grid .cols) (grid .rows) (now transcript))) ≤ length (now out) ⌝ }
+    ensures { λ r. ⌜ Written (now (out .entry)) at (linesOf (records (grid .cols) (grid .rows) (now (transcript .entry)))) r (now (out .exit)) ⌝ }
 {
     let mut p = at;
     let mut i = 0;
     while i < transcript.len() {
-        let RecordAnswer::Record(next) = check_record(transcript, i, cols, rows) else {
+        let RecordAnswer::Record(next) = check_record(transcript, i, grid) else {
             return p;
         };
         p = put_hex_line(out, &transcript[i..next], p);
@@ -55,19 +56,12 @@ fn put_stop(out: &mut [u8], at: usize, stop: Stop) -> usize
 }
 
 // What a run did: its records, its bits, and the refusal that stopped it.
-fn put_run(
-    out: &mut [u8],
-    transcript: &[u8],
-    cols: u32,
-    rows: u32,
-    consumed: usize,
-    stop: Stop,
-) -> usize
-    requires { ⌜ (cols ≤ 4096) × (rows ≤ 4096) × Recorded cols rows (now transcript) ⌝ }
+fn put_run(out: &mut [u8], transcript: &[u8], grid: Grid, consumed: usize, stop: Stop) -> usize
+    requires { ⌜ (grid .cols ≤ 4096) × (grid .rows ≤ 4096) × Recorded (grid .cols) (grid .rows) (now transcript) ⌝ }
     requires { ⌜ (length (now transcript) ≤ 33424) × (length (now out) ≡ 100352) ⌝ }
-    ensures { λ r. ⌜ (r ≤ 100352) × Written (now (out .entry)) 0 (linesOf (records cols rows (now (transcript .entry))) ++ bitsLine consumed ++ stopLines stop) r (now (out .exit)) ⌝ }
+    ensures { λ r. ⌜ (r ≤ 100352) × Written (now (out .entry)) 0 (linesOf (records (grid .cols) (grid .rows) (now (transcript .entry))) ++ bitsLine consumed ++ stopLines stop) r (now (out .exit)) ⌝ }
 {
-    let p = put_records(out, transcript, 0, cols, rows);
+    let p = put_records(out, transcript, 0, grid);
     let p = put_bits(out, p, consumed);
     put_stop(out, p, stop)
 }
@@ -85,7 +79,7 @@ fn run_start(transcript: &mut [u8], list: &[u8], bits: &[u8], h: Header) -> Repo
     let ry = [128u8; 4096];
     let rcb = [128u8; 1024];
     let rcr = [128u8; 1024];
-    let n = (h.cols as usize) * (h.rows as usize);
+    let n = h.grid.cols * h.grid.rows;
     let luma = 256 * n;
     let chroma = 64 * n;
     let numbers = 32 * n;
@@ -117,14 +111,7 @@ fn print_list(out: &mut [u8], list: &[u8], bits: &[u8], h: Header) -> usize
     let report = run_start(&mut transcript, list, bits, h);
     let fill = report.fill;
     let stop = report.stop;
-    put_run(
-        out,
-        &transcript[..fill],
-        h.cols,
-        h.rows,
-        report.consumed,
-        stop,
-    )
+    put_run(out, &transcript[..fill], h.grid, report.consumed, stop)
 }
 
 // The whole input, printed.

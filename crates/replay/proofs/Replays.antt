@@ -12,7 +12,7 @@ use Rattle.state.specs.InnerSizes.{AllSized}
 use Rattle.state.specs.Questions.{gridRight, askReplay, askQuantiser}
 use Rattle.state.specs.declared.Asked.{Asked}
 use Rattle.state.specs.declared.Asked.the-variants.{Yes, No}
-use Rattle.state.proofs.Laws.{Grid, grid}
+use Rattle.state.proofs.Laws.{GridRange, grid-range}
 use Rattle.state.proofs.Yes.{Started, started, all-sized}
 use Rattle.record.specs.Record.{Record}
 use Rattle.transcript.specs.Records.{records}
@@ -43,8 +43,8 @@ module _ (s : State) (bytes : List ℕ) where
     pub right : gridRight (s .cols) (s .rows) ≡ true
     right = facts .one
 
-    pub in-grid : Grid (s .cols) (s .rows)
-    in-grid = grid (s .cols) (s .rows) right
+    pub in-grid : GridRange (s .cols) (s .rows)
+    in-grid = grid-range (s .cols) (s .rows) right
 
     pub sized : AllSized (s .cols) (s .rows) (lengthsOf s)
     sized = all-sized (s .cols) (s .rows) (lengthsOf s) facts

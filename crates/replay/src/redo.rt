@@ -9,7 +9,6 @@ ghost use Rattle.macroblock.specs.Entry.{stateBefore, stateAfter};
 ghost use Rattle.replay.specs.InnerStepped.{Stepped};
 use apply::applied::apply_coded;
 use apply::applied::apply_skip;
-use picture::Grid;
 use record::Head;
 use state::Frame;
 use transcript::parse::ParseAnswer;
@@ -40,8 +39,8 @@ fn replay_coded(
     head: Head,
     next: usize,
 ) -> Step
-    requires { ⌜ (frame .cols ≤ 4096) × (frame .rows ≤ 4096) × (PlaceAnswer.Coded head next ≡ placeAnswer at (parsePlace (frame .cols) (frame .rows) (drop at (now bytes)))) ⌝ }
-    requires { ⌜ AllSized (frame .cols) (frame .rows) (lentLengths y cb cr mv marks ry rcb rcr) ⌝ }
+    requires { ⌜ (frame .grid .cols ≤ 4096) × (frame .grid .rows ≤ 4096) × (PlaceAnswer.Coded head next ≡ placeAnswer at (parsePlace (frame .grid .cols) (frame .grid .rows) (drop at (now bytes)))) ⌝ }
+    requires { ⌜ AllSized (frame .grid .cols) (frame .grid .rows) (lentLengths y cb cr mv marks ry rcb rcr) ⌝ }
     ensures { λ r. ⌜ Stepped (now (bytes .entry)) at (r .next) (stateBefore frame quantiser ry rcb rcr y cb cr mv marks)
         (stateAfter frame (r .quantiser) ry rcb rcr y cb cr mv marks) ⌝ }
 {
@@ -50,10 +49,6 @@ fn replay_coded(
     let ParseAnswer::Parsed(coded, end) = parse_motion(&mut vectors, &mut levels, bytes, next, head)
     else {
         return Step { quantiser, next };
-    };
-    let grid = Grid {
-        cols: frame.cols as usize,
-        rows: frame.rows as usize,
     };
     apply_coded(
         y,
@@ -66,7 +61,7 @@ fn replay_coded(
         rcr,
         &vectors,
         &levels,
-        grid,
+        frame.grid,
         coded,
     );
     Step {
@@ -90,17 +85,13 @@ pub fn replay_record(
     quantiser: u32,
     at: usize,
 ) -> Step
-    requires { ⌜ (frame .cols ≤ 4096) × (frame .rows ≤ 4096) ⌝ }
-    requires { ⌜ AllSized (frame .cols) (frame .rows) (lentLengths y cb cr mv marks ry rcb rcr) ⌝ }
+    requires { ⌜ (frame .grid .cols ≤ 4096) × (frame .grid .rows ≤ 4096) ⌝ }
+    requires { ⌜ AllSized (frame .grid .cols) (frame .grid .rows) (lentLengths y cb cr mv marks ry rcb rcr) ⌝ }
     ensures { λ r. ⌜ Stepped (now (bytes .entry)) at (r .next) (stateBefore frame quantiser ry rcb rcr y cb cr mv marks)
         (stateAfter frame (r .quantiser) ry rcb rcr y cb cr mv marks) ⌝ }
 {
-    match parse_place(bytes, at, frame.cols, frame.rows) {
+    match parse_place(bytes, at, frame.grid) {
         PlaceAnswer::Skip(column, row, next) => {
-            let grid = Grid {
-                cols: frame.cols as usize,
-                rows: frame.rows as usize,
-            };
             apply_skip(
                 y,
                 cb,
@@ -110,7 +101,7 @@ pub fn replay_record(
                 ry,
                 rcb,
                 rcr,
-                grid,
+                frame.grid,
                 column as usize,
                 row as usize,
             );

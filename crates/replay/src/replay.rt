@@ -29,8 +29,8 @@ fn replay_records(
     frame: Frame,
     quantiser: u32,
 ) -> u32
-    requires { ⌜ (frame .cols ≤ 4096) × (frame .rows ≤ 4096) × Recorded (frame .cols) (frame .rows) (now bytes) ⌝ }
-    requires { ⌜ AllSized (frame .cols) (frame .rows) (lentLengths y cb cr mv marks ry rcb rcr) ⌝ }
+    requires { ⌜ (frame .grid .cols ≤ 4096) × (frame .grid .rows ≤ 4096) × Recorded (frame .grid .cols) (frame .grid .rows) (now bytes) ⌝ }
+    requires { ⌜ AllSized (frame .grid .cols) (frame .grid .rows) (lentLengths y cb cr mv marks ry rcb rcr) ⌝ }
     ensures { λ r. ⌜ stateAfter frame r ry rcb rcr y cb cr mv marks
         ≡ allLeft (stateBefore frame quantiser ry rcb rcr y cb cr mv marks) (now (bytes .entry)) ⌝ }
 {
@@ -71,8 +71,8 @@ pub fn replay(
         rcb: rcb.len(),
         rcr: rcr.len(),
     };
-    match ask_replay(frame.cols, frame.rows, l, quantiser) {
-        Asked::Yes => match check_records(bytes, frame.cols, frame.rows) {
+    match ask_replay(frame.grid, l, quantiser) {
+        Asked::Yes => match check_records(bytes, frame.grid) {
             CheckAnswer::Records(n) => {
                 let q = replay_records(y, cb, cr, mv, marks, ry, rcb, rcr, bytes, frame, quantiser);
                 ReplayAnswer::Replayed(ReplayReport {

@@ -52,9 +52,9 @@ pub fn report_of(
 
 // A run with no call: its questions are asked all the same.
 pub fn run_nothing(frame: Frame, l: Lengths, quantiser: u32, size: usize, place: usize) -> Report
-    ensures { λ r. ⌜ r ≡ reportOf 0 0 place quantiser 0 (stopOf (askRun (frame .cols) (frame .rows) l quantiser size place)) ⌝ }
+    ensures { λ r. ⌜ r ≡ reportOf 0 0 place quantiser 0 (stopOf (askRun (frame .grid .cols) (frame .grid .rows) l quantiser size place)) ⌝ }
 {
-    match ask_run(frame.cols, frame.rows, l, quantiser, size, place) {
+    match ask_run(frame.grid, l, quantiser, size, place) {
         Asked::Yes => report_of(0, 0, place, quantiser, 0, Stop::Done),
         Asked::No(why) => report_of(0, 0, place, quantiser, 0, Stop::By(why)),
     }

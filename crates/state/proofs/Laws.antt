@@ -38,22 +38,20 @@ four-true a b c d e =
     let s = both-true a b (q .0) in
     (s .0, s .1, q .1, p .1)
 
--- a grid that passed question 1
-pub record Grid (cols rows : ℕ) : Type 0 where
-  pub some-cols : 1 ≤ cols
+-- a grid that passed question 1 has at most 4,096 macroblocks a side
+pub record GridRange (cols rows : ℕ) : Type 0 where
   pub most-cols : cols ≤ 4096
-  pub some-rows : 1 ≤ rows
   pub most-rows : rows ≤ 4096
 
-pub grid : (cols rows : ℕ) → gridRight cols rows ≡ true → Grid cols rows
+pub grid-range : (cols rows : ℕ) → gridRight cols rows ≡ true → GridRange cols rows
 unfolding gridRight
-grid cols rows e =
+grid-range cols rows e =
     let s = four-true (leb 1 cols) (leb cols 4096) (leb 1 rows) (leb rows 4096) e in
-    record { some-cols = leb-true 1 cols (s .0); most-cols = leb-true cols 4096 (s .1); some-rows = leb-true 1 rows (s .2); most-rows = leb-true rows 4096 (s .3) }
+    record { most-cols = leb-true cols 4096 (s .1); most-rows = leb-true rows 4096 (s .3) }
 
 -- at most 2^24 macroblocks
 pub grid-size : (cols rows : ℕ) → gridRight cols rows ≡ true → cols * rows ≤ 16777216
-grid-size cols rows e = let g = grid cols rows e in mul-le-mul (g .most-cols) (g .most-rows)
+grid-size cols rows e = let g = grid-range cols rows e in mul-le-mul (g .most-cols) (g .most-rows)
 
 place-onward : (size place : ℕ) (next : Asked) → askPlace size place next ≡ onward (askPlace size place Yes) next
 unfolding askPlace

@@ -16,7 +16,7 @@ use Rattle.state.specs.declared.Lengths.{Lengths}
 use Rattle.state.specs.declared.Asked.{Asked}
 use Rattle.state.specs.declared.Asked.the-variants.{Yes, No}
 use Rattle.picture.proofs.Laws.{both-true}
-use Rattle.state.proofs.Laws.{Grid, grid}
+use Rattle.state.proofs.Laws.{GridRange, grid-range}
 
 no-yes : {A : Type 0} {why : Refusal} → No why ≡ Yes → A
 no-yes e = absurd (let z : _≡_ {A = ℕ} 0 1 = cc in omega arith)
@@ -92,7 +92,7 @@ rest-yes cols rows call quantiser size place free e =
 
 -- 1 to 8 passed
 pub record Called (cols rows : ℕ) (l : Lengths) (call : Call) (quantiser size place free : ℕ) : Type 0 where
-  pub in-grid : Grid cols rows
+  pub in-grid : GridRange cols rows
   pub sized : AllSized cols rows l
   pub rest : Rest cols rows call quantiser size place free
 
@@ -101,7 +101,7 @@ unfolding askCall
 call-yes cols rows l call quantiser size place free e =
     let st = started cols rows l _ e in
     record {
-      in-grid = grid cols rows (st .one);
+      in-grid = grid-range cols rows (st .one);
       sized = all-sized cols rows l st;
       rest = rest-yes cols rows call quantiser size place free (st .others);
     }

@@ -4,6 +4,7 @@ ghost use mathlib.Core.Path.{_≡_};
 ghost use mathlib.Core.Bool.{true};
 ghost use Prim.Native.Nat.{_≤_};
 ghost use Rattle.state.specs.Questions.{gridRight, planesRight, stateRight, referenceThere, callRight, askStart, askPlace, askRest, askCall, askRun, askReplay, sidesFit};
+use picture::Grid;
 use refusal::Refusal;
 
 pub struct Call {
@@ -21,8 +22,7 @@ pub struct Flags {
 
 // What a run has fixed: the grid and the flags.
 pub struct Frame {
-    pub cols: u32,
-    pub rows: u32,
+    pub grid: Grid,
     pub flags: Flags,
 }
 
@@ -49,26 +49,26 @@ pub enum Asked {
     No(Refusal),
 }
 
-pub fn grid_right(cols: u32, rows: u32) -> bool
-    ensures { λ r. ⌜ r ≡ gridRight cols rows ⌝ }
+pub fn grid_right(grid: Grid) -> bool
+    ensures { λ r. ⌜ r ≡ gridRight (grid .cols) (grid .rows) ⌝ }
 {
-    (1 <= cols) & (cols <= 4096) & (1 <= rows) & (rows <= 4096)
+    (1 <= grid.cols) & (grid.cols <= 4096) & (1 <= grid.rows) & (grid.rows <= 4096)
 }
 
-fn planes_right(cols: u32, rows: u32, y: usize, cb: usize, cr: usize) -> bool
-    requires { ⌜ gridRight cols rows ≡ true ⌝ }
-    ensures { λ r. ⌜ r ≡ planesRight cols rows y cb cr ⌝ }
+fn planes_right(grid: Grid, y: usize, cb: usize, cr: usize) -> bool
+    requires { ⌜ gridRight (grid .cols) (grid .rows) ≡ true ⌝ }
+    ensures { λ r. ⌜ r ≡ planesRight (grid .cols) (grid .rows) y cb cr ⌝ }
 {
-    let n = (cols as usize) * (rows as usize);
+    let n = grid.cols * grid.rows;
     (y == 256 * n) & (cb == 64 * n) & (cr == 64 * n)
 }
 
-fn state_right(cols: u32, rows: u32, l: Lengths) -> bool
-    requires { ⌜ gridRight cols rows ≡ true ⌝ }
-    ensures { λ r. ⌜ r ≡ stateRight cols rows l ⌝ }
+fn state_right(grid: Grid, l: Lengths) -> bool
+    requires { ⌜ gridRight (grid .cols) (grid .rows) ≡ true ⌝ }
+    ensures { λ r. ⌜ r ≡ stateRight (grid .cols) (grid .rows) l ⌝ }
 {
-    let n = (cols as usize) * (rows as usize);
-    planes_right(cols, rows, l.y, l.cb, l.cr) & (l.mv == 2 * (16 * n)) & (l.marks == 16 * n)
+    let n = grid.cols * grid.rows;
+    planes_right(grid, l.y, l.cb, l.cr) & (l.mv == 2 * (16 * n)) & (l.marks == 16 * n)
 }
 
 fn reference_there(l: Lengths) -> bool
@@ -77,20 +77,20 @@ fn reference_there(l: Lengths) -> bool
     (0 < l.ry) | (0 < l.rcb) | (0 < l.rcr)
 }
 
-fn call_right(cols: u32, rows: u32, call: Call) -> bool
-    ensures { λ r. ⌜ r ≡ callRight cols rows call ⌝ }
+fn call_right(grid: Grid, call: Call) -> bool
+    ensures { λ r. ⌜ r ≡ callRight (grid .cols) (grid .rows) call ⌝ }
 {
-    (call.mode <= 7) & (call.column < cols) & (call.row < rows)
+    (call.mode <= 7) & ((call.column as usize) < grid.cols) & ((call.row as usize) < grid.rows)
 }
 
 // Questions 1 to 4.
-fn ask_start(cols: u32, rows: u32, l: Lengths) -> Asked
-    ensures { λ r. ⌜ r ≡ askStart cols rows l Asked.Yes ⌝ }
+fn ask_start(grid: Grid, l: Lengths) -> Asked
+    ensures { λ r. ⌜ r ≡ askStart (grid .cols) (grid .rows) l Asked.Yes ⌝ }
 {
-    if grid_right(cols, rows) {
-        if state_right(cols, rows, l) {
+    if grid_right(grid) {
+        if state_right(grid, l) {
             if reference_there(l) {
-                if planes_right(cols, rows, l.ry, l.rcb, l.rcr) {
+                if planes_right(grid, l.ry, l.rcb, l.rcr) {
                     return Asked::Yes;
                 }
                 return Asked::No(Refusal::ReferenceLength);
@@ -115,10 +115,10 @@ fn ask_place(size: usize, place: usize) -> Asked
 }
 
 // Questions 1 to 4 and 6: of a replay.
-pub fn ask_replay(cols: u32, rows: u32, l: Lengths, quantiser: u32) -> Asked
-    ensures { λ r. ⌜ r ≡ askReplay cols rows l quantiser ⌝ }
+pub fn ask_replay(grid: Grid, l: Lengths, quantiser: u32) -> Asked
+    ensures { λ r. ⌜ r ≡ askReplay (grid .cols) (grid .rows) l quantiser ⌝ }
 {
-    match ask_start(cols, rows, l) {
+    match ask_start(grid, l) {
         Asked::Yes => {
             if quantiser <= 31 {
                 Asked::Yes
@@ -131,28 +131,20 @@ pub fn ask_replay(cols: u32, rows: u32, l: Lengths, quantiser: u32) -> Asked
 }
 
 // Questions 1 to 4, 6 and 7: of a run with no call.
-pub fn ask_run(cols: u32, rows: u32, l: Lengths, quantiser: u32, size: usize, place: usize) -> Asked
-    ensures { λ r. ⌜ r ≡ askRun cols rows l quantiser size place ⌝ }
+pub fn ask_run(grid: Grid, l: Lengths, quantiser: u32, size: usize, place: usize) -> Asked
+    ensures { λ r. ⌜ r ≡ askRun (grid .cols) (grid .rows) l quantiser size place ⌝ }
 {
-    match ask_replay(cols, rows, l, quantiser) {
+    match ask_replay(grid, l, quantiser) {
         Asked::Yes => ask_place(size, place),
         Asked::No(why) => Asked::No(why),
     }
 }
 
 // Questions 5 to 8.
-fn ask_rest(
-    cols: u32,
-    rows: u32,
-    call: Call,
-    quantiser: u32,
-    size: usize,
-    place: usize,
-    free: usize,
-) -> Asked
-    ensures { λ r. ⌜ r ≡ askRest cols rows call quantiser size place free ⌝ }
+fn ask_rest(grid: Grid, call: Call, quantiser: u32, size: usize, place: usize, free: usize) -> Asked
+    ensures { λ r. ⌜ r ≡ askRest (grid .cols) (grid .rows) call quantiser size place free ⌝ }
 {
-    if call_right(cols, rows, call) {
+    if call_right(grid, call) {
         if quantiser <= 31 {
             match ask_place(size, place) {
                 Asked::Yes => {
@@ -171,8 +163,7 @@ fn ask_rest(
 
 // Questions 1 to 8: of a call.
 pub fn ask_call(
-    cols: u32,
-    rows: u32,
+    grid: Grid,
     l: Lengths,
     call: Call,
     quantiser: u32,
@@ -180,10 +171,10 @@ pub fn ask_call(
     place: usize,
     free: usize,
 ) -> Asked
-    ensures { λ r. ⌜ r ≡ askCall cols rows l call quantiser size place free ⌝ }
+    ensures { λ r. ⌜ r ≡ askCall (grid .cols) (grid .rows) l call quantiser size place free ⌝ }
 {
-    match ask_start(cols, rows, l) {
-        Asked::Yes => ask_rest(cols, rows, call, quantiser, size, place, free),
+    match ask_start(grid, l) {
+        Asked::Yes => ask_rest(grid, call, quantiser, size, place, free),
         Asked::No(why) => Asked::No(why),
     }
 }

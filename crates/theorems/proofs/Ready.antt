@@ -4,7 +4,7 @@ use mathlib.Core.Path.{_≡_, refl}
 use Prim.Native.Nat.{ℕ, _≤_}
 use borrow.Author.Tests.{le-leb}
 use Rattle.state.specs.Questions.{askStart, askQuantiser, askCall, askReplay}
-use Rattle.state.proofs.Laws.{grid}
+use Rattle.state.proofs.Laws.{grid-range}
 use Rattle.state.proofs.Yes.{started, rest-yes}
 use Rattle.state.specs.declared.Call.{Call}
 use Rattle.state.specs.declared.Asked.the-variants.{Yes}
@@ -21,7 +21,7 @@ pub asks : (s : State) (call : Call) (size place free : ℕ) → askCall (s .col
 unfolding askCall askReplay askStart askQuantiser
 asks s call size place free e =
     let st = started (s .cols) (s .rows) (lengthsOf s) _ e in
-    let g = grid (s .cols) (s .rows) (st .one) in
+    let g = grid-range (s .cols) (s .rows) (st .one) in
     let r = rest-yes (s .cols) (s .rows) call (s .quantiser) size place free (st .others) in
     record {
       ready = record { wide = g .most-cols; high = g .most-rows; mode = r .mode; column = r .column; row = r .row; quantiser = r .quantiser-most };

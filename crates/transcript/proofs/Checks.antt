@@ -12,7 +12,7 @@ use Rattle.refusal.specs.declared.Refusal.{Refusal}
 use Rattle.refusal.proofs.Formats.{bounded}
 use Rattle.refusal.proofs.Lists.{Takes, First, Next, untilAll, until-got, until-next, until-none, tally}
 use Rattle.state.specs.Questions.{gridRight}
-use Rattle.state.proofs.Laws.{grid}
+use Rattle.state.proofs.Laws.{grid-range}
 use Rattle.record.specs.Record.{Record}
 use Rattle.record.specs.Parse.{parseMotion, parseRecord}
 use Rattle.record.specs.declared.Head.{Head}
@@ -61,7 +61,7 @@ module _ (cols rows : ℕ) where
 
 -- in a grid that is right
 pub grid-takes : (cols rows : ℕ) → gridRight cols rows ≡ true → Takes (parseRecord cols rows)
-grid-takes cols rows e = let g = grid cols rows e in record-takes cols rows (g .most-cols) (g .most-rows)
+grid-takes cols rows e = let g = grid-range cols rows e in record-takes cols rows (g .most-cols) (g .most-rows)
 
 -- ---- what was answered of one record
 -- what follows its mode was read

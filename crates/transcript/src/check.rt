@@ -12,6 +12,7 @@ use crate::parse::ParseAnswer;
 use crate::parse::PlaceAnswer;
 use crate::parse::parse_motion;
 use crate::parse::parse_place;
+use picture::Grid;
 use record::Head;
 use refusal::Refusal;
 use state::grid_right;
@@ -42,10 +43,10 @@ fn check_coded(bytes: &[u8], at: usize, head: Head) -> RecordAnswer
 }
 
 // The record at a place, which may lie anywhere, also past the end.
-pub fn check_record(bytes: &[u8], at: usize, cols: u32, rows: u32) -> RecordAnswer
-    ensures { λ r. ⌜ r ≡ recordAnswer at (parseRecord cols rows (drop at (now (bytes .entry)))) ⌝ }
+pub fn check_record(bytes: &[u8], at: usize, grid: Grid) -> RecordAnswer
+    ensures { λ r. ⌜ r ≡ recordAnswer at (parseRecord (grid .cols) (grid .rows) (drop at (now (bytes .entry)))) ⌝ }
 {
-    match parse_place(bytes, at, cols, rows) {
+    match parse_place(bytes, at, grid) {
         PlaceAnswer::Skip(_, _, next) => RecordAnswer::Record(next),
         PlaceAnswer::Coded(head, next) => check_coded(bytes, next, head),
         PlaceAnswer::Refused(why) => RecordAnswer::Refused(why),
@@ -53,14 +54,14 @@ pub fn check_record(bytes: &[u8], at: usize, cols: u32, rows: u32) -> RecordAnsw
 }
 
 // The records of a grid that is right.
-pub fn check_records(bytes: &[u8], cols: u32, rows: u32) -> CheckAnswer
-    requires { ⌜ gridRight cols rows ≡ true ⌝ }
-    ensures { λ r. ⌜ r ≡ checkAnswer (records cols rows (now (bytes .entry))) ⌝ }
+pub fn check_records(bytes: &[u8], grid: Grid) -> CheckAnswer
+    requires { ⌜ gridRight (grid .cols) (grid .rows) ≡ true ⌝ }
+    ensures { λ r. ⌜ r ≡ checkAnswer (records (grid .cols) (grid .rows) (now (bytes .entry))) ⌝ }
 {
     let mut at = 0;
     let mut count: usize = 0;
     while at < bytes.len() {
-        match check_record(bytes, at, cols, rows) {
+        match check_record(bytes, at, grid) {
             RecordAnswer::Record(next) => {
                 at = next;
                 count += 1;
@@ -71,11 +72,12 @@ pub fn check_records(bytes: &[u8], cols: u32, rows: u32) -> CheckAnswer
     CheckAnswer::Records(count)
 }
 
-pub fn check_transcript(bytes: &[u8], cols: u32, rows: u32) -> CheckAnswer
+pub fn check_transcript(bytes: &[u8], cols: usize, rows: usize) -> CheckAnswer
     ensures { λ r. ⌜ r ≡ checked cols rows (now (bytes .entry)) ⌝ }
 {
-    if grid_right(cols, rows) {
-        return check_records(bytes, cols, rows);
+    let grid = Grid { cols, rows };
+    if grid_right(grid) {
+        return check_records(bytes, grid);
     }
     CheckAnswer::Refused(Refusal::GridSize)
 }

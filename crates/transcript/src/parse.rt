@@ -24,6 +24,7 @@ use number::SignedNumberAnswer;
 use number::read_number;
 use number::read_signed_number;
 use number::received_of;
+use picture::Grid;
 use record::Head;
 use record::place_head;
 use record::with_motion;
@@ -63,8 +64,8 @@ fn read_field(bytes: &[u8], at: usize, most: u32) -> NumberAnswer
 }
 
 // Column, row and mode of the record at a place, which may lie anywhere, also past the end.
-pub fn parse_place(bytes: &[u8], at: usize, cols: u32, rows: u32) -> PlaceAnswer
-    ensures { λ r. ⌜ r ≡ placeAnswer at (parsePlace cols rows (drop at (now (bytes .entry)))) ⌝ }
+pub fn parse_place(bytes: &[u8], at: usize, grid: Grid) -> PlaceAnswer
+    ensures { λ r. ⌜ r ≡ placeAnswer at (parsePlace (grid .cols) (grid .rows) (drop at (now (bytes .entry)))) ⌝ }
 {
     let NumberAnswer::Number(column, p) = read_number(bytes, at) else {
         return PlaceAnswer::Refused(Refusal::NumberForm);
@@ -75,7 +76,7 @@ pub fn parse_place(bytes: &[u8], at: usize, cols: u32, rows: u32) -> PlaceAnswer
     let NumberAnswer::Number(mode, next) = read_number(bytes, q) else {
         return PlaceAnswer::Refused(Refusal::NumberForm);
     };
-    if (column < cols) & (row < rows) & (mode <= 7) {
+    if ((column as usize) < grid.cols) & ((row as usize) < grid.rows) & (mode <= 7) {
         if mode == 0 {
             return PlaceAnswer::Skip(column, row, next);
         }

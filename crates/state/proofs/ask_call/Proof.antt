@@ -27,11 +27,11 @@ enum-known-why c = search needs
 
 -- src/lib.rt:151:1
 returns : tie.Need-returns
-returns c = let a = c .before .before .before .before .args in c .ask-rest .ensures ∙ sym (call-is (a .cols) (a .rows) (a .l) (a .call) (a .quantiser) (a .size) (a .place) (a .free) _ (sym (c .before .enum-told .given .1) ∙ c .before .before .before .ask-start .ensures))
+returns c = let a = c .before .before .before .before .args in c .ask-rest .ensures ∙ sym (call-is (a .grid .cols) (a .grid .rows) (a .l) (a .call) (a .quantiser) (a .size) (a .place) (a .free) _ (sym (c .before .enum-told .given .1) ∙ c .before .before .before .ask-start .ensures))
 
 -- src/lib.rt:151:1
 returns-2 : tie.Need-returns-2
-returns-2 c = let a = c .before .before .before .before .args in sym (call-is (a .cols) (a .rows) (a .l) (a .call) (a .quantiser) (a .size) (a .place) (a .free) _ (sym (c .before .why .given .1) ∙ c .before .before .before .ask-start .ensures))
+returns-2 c = let a = c .before .before .before .before .args in sym (call-is (a .grid .cols) (a .grid .rows) (a .l) (a .call) (a .quantiser) (a .size) (a .place) (a .free) _ (sym (c .before .why .given .1) ∙ c .before .before .before .ask-start .ensures))
 
 pub ask-call-spec : {M : Type 1} → statement M
 ask-call-spec =

@@ -25,16 +25,16 @@ enum-known-why c = search needs
 -- src/lib.rt:96:1
 returns : tie.Need-returns
 unfolding askQuantiser
-returns c = let a = c .before .before .before .before .args in sym (replay-is (a .cols) (a .rows) (a .l) (a .quantiser) _ (sym (c .before .enum-told .given .1) ∙ c .before .before .before .ask-start .ensures) ∙ rw (le-leb _ _ (c .if1 .taken)))
+returns c = let a = c .before .before .before .before .args in sym (replay-is (a .grid .cols) (a .grid .rows) (a .l) (a .quantiser) _ (sym (c .before .enum-told .given .1) ∙ c .before .before .before .ask-start .ensures) ∙ rw (le-leb _ _ (c .if1 .taken)))
 
 -- src/lib.rt:96:1
 returns-2 : tie.Need-returns-2
 unfolding askQuantiser
-returns-2 c = let a = c .before .before .before .before .args in sym (replay-is (a .cols) (a .rows) (a .l) (a .quantiser) _ (sym (c .before .enum-told .given .1) ∙ c .before .before .before .ask-start .ensures) ∙ rw (lt-leb _ _ (c .if1 .left)))
+returns-2 c = let a = c .before .before .before .before .args in sym (replay-is (a .grid .cols) (a .grid .rows) (a .l) (a .quantiser) _ (sym (c .before .enum-told .given .1) ∙ c .before .before .before .ask-start .ensures) ∙ rw (lt-leb _ _ (c .if1 .left)))
 
 -- src/lib.rt:96:1
 returns-3 : tie.Need-returns-3
-returns-3 c = let a = c .before .before .before .before .args in sym (replay-is (a .cols) (a .rows) (a .l) (a .quantiser) _ (sym (c .before .why .given .1) ∙ c .before .before .before .ask-start .ensures))
+returns-3 c = let a = c .before .before .before .before .args in sym (replay-is (a .grid .cols) (a .grid .rows) (a .l) (a .quantiser) _ (sym (c .before .why .given .1) ∙ c .before .before .before .ask-start .ensures))
 
 pub ask-replay-spec : {M : Type 1} → statement M
 ask-replay-spec =

@@ -28,13 +28,13 @@ enum-told c = search needs
 returns : tie.Need-returns
 returns c =
     let a = c .before .before .before .before .before .before .before .args in
-    sym (rest-is (a .cols) (a .rows) (a .call) (a .quantiser) (a .size) (a .place) (a .free) _ (sym (c .before .before .before .before .before .before .call-right .ensures) ∙ c .before .before .before .before .before .if1 .taken) (le-leb _ _ (c .before .before .before .before .if2 .taken)) (sym (c .before .enum-told .given .1) ∙ c .before .before .before .ask-place .ensures) ∙ rw (le-leb 2089 (a .free) (omega arith)))
+    sym (rest-is (a .grid .cols) (a .grid .rows) (a .call) (a .quantiser) (a .size) (a .place) (a .free) _ (sym (c .before .before .before .before .before .before .call-right .ensures) ∙ c .before .before .before .before .before .if1 .taken) (le-leb _ _ (c .before .before .before .before .if2 .taken)) (sym (c .before .enum-told .given .1) ∙ c .before .before .before .ask-place .ensures) ∙ rw (le-leb 2089 (a .free) (omega arith)))
 
 -- src/lib.rt:140:21
 returns-2 : tie.Need-returns-2
 returns-2 c =
     let a = c .before .before .before .before .before .before .before .args in
-    sym (rest-is (a .cols) (a .rows) (a .call) (a .quantiser) (a .size) (a .place) (a .free) _ (sym (c .before .before .before .before .before .before .call-right .ensures) ∙ c .before .before .before .before .before .if1 .taken) (le-leb _ _ (c .before .before .before .before .if2 .taken)) (sym (c .before .enum-told .given .1) ∙ c .before .before .before .ask-place .ensures) ∙ rw (lt-leb 2089 (a .free) (omega arith)))
+    sym (rest-is (a .grid .cols) (a .grid .rows) (a .call) (a .quantiser) (a .size) (a .place) (a .free) _ (sym (c .before .before .before .before .before .before .call-right .ensures) ∙ c .before .before .before .before .before .if1 .taken) (le-leb _ _ (c .before .before .before .before .if2 .taken)) (sym (c .before .enum-told .given .1) ∙ c .before .before .before .ask-place .ensures) ∙ rw (lt-leb 2089 (a .free) (omega arith)))
 
 -- src/lib.rt:142:27
 enum-known-why : tie.Need-enum-known-why
@@ -44,7 +44,7 @@ enum-known-why c = search needs
 returns-3 : tie.Need-returns-3
 returns-3 c =
     let a = c .before .before .before .before .before .before .before .args in
-    sym (rest-is (a .cols) (a .rows) (a .call) (a .quantiser) (a .size) (a .place) (a .free) _ (sym (c .before .before .before .before .before .before .call-right .ensures) ∙ c .before .before .before .before .before .if1 .taken) (le-leb _ _ (c .before .before .before .before .if2 .taken)) (sym (c .before .why .given .1) ∙ c .before .before .before .ask-place .ensures) ∙ refl)
+    sym (rest-is (a .grid .cols) (a .grid .rows) (a .call) (a .quantiser) (a .size) (a .place) (a .free) _ (sym (c .before .before .before .before .before .before .call-right .ensures) ∙ c .before .before .before .before .before .if1 .taken) (le-leb _ _ (c .before .before .before .before .if2 .taken)) (sym (c .before .why .given .1) ∙ c .before .before .before .ask-place .ensures) ∙ refl)
 
 -- src/lib.rt:145:9
 returns-4 : tie.Need-returns-4

@@ -27,11 +27,11 @@ enum-known-why c = search needs
 
 -- src/lib.rt:112:1
 returns : tie.Need-returns
-returns c = let a = c .before .before .before .before .args in c .ask-place .ensures ∙ sym (run-is (a .cols) (a .rows) (a .l) (a .quantiser) (a .size) (a .place) _ (sym (c .before .enum-told .given .1) ∙ c .before .before .before .ask-replay .ensures))
+returns c = let a = c .before .before .before .before .args in c .ask-place .ensures ∙ sym (run-is (a .grid .cols) (a .grid .rows) (a .l) (a .quantiser) (a .size) (a .place) _ (sym (c .before .enum-told .given .1) ∙ c .before .before .before .ask-replay .ensures))
 
 -- src/lib.rt:112:1
 returns-2 : tie.Need-returns-2
-returns-2 c = let a = c .before .before .before .before .args in sym (run-is (a .cols) (a .rows) (a .l) (a .quantiser) (a .size) (a .place) _ (sym (c .before .why .given .1) ∙ c .before .before .before .ask-replay .ensures))
+returns-2 c = let a = c .before .before .before .before .args in sym (run-is (a .grid .cols) (a .grid .rows) (a .l) (a .quantiser) (a .size) (a .place) _ (sym (c .before .why .given .1) ∙ c .before .before .before .ask-replay .ensures))
 
 pub ask-run-spec : {M : Type 1} → statement M
 ask-run-spec =

@@ -1,6 +1,7 @@
 -- `state::call_right` meets its contract: the tests are the definition's.
 use mathlib.Core.Path.{refl}
 use Rattle.state.specs.Questions.{callRight}
+use borrow.Author.Needs.{needs}
 use Rattle.state.proofs.call_right.Statement.{statement}
 use Rattle.state.proofs.call_right.Tie as tie
 use Rattle.state.proofs.call_right.Reads as reads
@@ -12,4 +13,4 @@ unfolding callRight
 returns c = refl
 
 pub call-right-spec : {M : Type 1} → statement M
-call-right-spec = tie.close (tie.spec returns)
+call-right-spec = tie.close (tie.spec (λ c. search needs) (λ c. search needs) returns)

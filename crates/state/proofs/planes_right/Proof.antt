@@ -10,19 +10,19 @@ use Rattle.state.proofs.planes_right.Lts as lts
 
 -- src/lib.rt:40:13
 mul-n : tie.Need-mul-n
-mul-n c = omega (arith, grid-size (c .args .cols) (c .args .rows) (c .pre))
+mul-n c = omega (arith, grid-size (c .before .args .grid .cols) (c .before .args .grid .rows) (c .before .pre))
 
 -- src/lib.rt:41:11
 mul-result : tie.Need-mul-result
-mul-result c = omega (arith, grid-size (c .args .cols) (c .args .rows) (c .pre))
+mul-result c = omega (arith, grid-size (c .before .args .grid .cols) (c .before .args .grid .rows) (c .before .pre))
 
 -- src/lib.rt:41:29
 mul-result-2 : tie.Need-mul-result-2
-mul-result-2 c = omega (arith, grid-size (c .args .cols) (c .args .rows) (c .pre))
+mul-result-2 c = omega (arith, grid-size (c .before .args .grid .cols) (c .before .args .grid .rows) (c .before .pre))
 
 -- src/lib.rt:41:46
 mul-result-3 : tie.Need-mul-result-3
-mul-result-3 c = omega (arith, grid-size (c .args .cols) (c .args .rows) (c .pre))
+mul-result-3 c = omega (arith, grid-size (c .before .args .grid .cols) (c .before .args .grid .rows) (c .before .pre))
 
 -- src/lib.rt:36:1
 returns : tie.Need-returns

@@ -11,7 +11,7 @@ use Rattle.state.proofs.planes_right.Reads as planes-right-reads
 
 -- src/lib.rt:48:13
 mul-n : tie.Need-mul-n
-mul-n c = omega (arith, grid-size (c .args .cols) (c .args .rows) (c .pre))
+mul-n c = omega (arith, grid-size (c .before .args .grid .cols) (c .before .args .grid .rows) (c .before .pre))
 
 -- src/lib.rt:49:5
 planes-right-requires : tie.Need-planes-right-requires
@@ -19,15 +19,15 @@ planes-right-requires c κs = search needs
 
 -- src/lib.rt:49:63
 mul-result : tie.Need-mul-result
-mul-result c = omega (arith, grid-size (c .before .args .cols) (c .before .args .rows) (c .before .pre))
+mul-result c = omega (arith, grid-size (c .before .before .args .grid .cols) (c .before .before .args .grid .rows) (c .before .before .pre))
 
 -- src/lib.rt:49:58
 mul-result-2 : tie.Need-mul-result-2
-mul-result-2 c = omega (arith, grid-size (c .before .args .cols) (c .before .args .rows) (c .before .pre))
+mul-result-2 c = omega (arith, grid-size (c .before .before .args .grid .cols) (c .before .before .args .grid .rows) (c .before .before .pre))
 
 -- src/lib.rt:49:86
 mul-result-3 : tie.Need-mul-result-3
-mul-result-3 c = omega (arith, grid-size (c .before .before .args .cols) (c .before .before .args .rows) (c .before .before .pre))
+mul-result-3 c = omega (arith, grid-size (c .before .before .before .args .grid .cols) (c .before .before .before .args .grid .rows) (c .before .before .before .pre))
 
 -- src/lib.rt:44:1
 returns : tie.Need-returns

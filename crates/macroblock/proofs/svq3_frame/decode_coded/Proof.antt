@@ -30,7 +30,7 @@ within-at s = laws.within (S s) (s .args .call) (now (s .args .bits)) (s .args .
 
 -- ---- a record was read
 abbrev atStart : tie.After-known-told → tie.Start
-atStart k = k .before .before .before .before .before .before .before .before .before .before .before .before .before .before .before .before .before .before .before .before .before .before
+atStart k = k .before .before .before .before .before .before .before .before .before .before .before .before .before .before .before .before .before .before .before .before .before
 
 abbrev H : tie.After-known-told → Head
 H k = k .before .head .given .0 .0
@@ -54,7 +54,7 @@ no-skip-at k = let s = atStart k in laws.no-skip (S s) (s .args .call) (now (s .
 read-coded-requires : tie.Need-read-coded-requires
 unfolding noVectors noLevels
 read-coded-requires c κs =
-    let s = c .before .before .before .before .before .before .before .before .before .before .before .before .before .before .before .before in
+    let s = c .before .before .before .before .before .before .before .before .before .before .before .before .before .before .before in
     let f = facts-at s in
     ((within-at s, f .rest .mode, f .rest .quantiser-most, f .rest .size-fits), (f .sized .mv, f .sized .marks, refl, refl))
 
@@ -83,15 +83,13 @@ returns c =
 
 returns-2 : tie.Need-returns-2
 returns-2 c =
-    let s = c .before .before .before .before .before .before .before .before .before .before .before .before .before .before .before .before .before .before .before .before .before .before in
+    let s = c .before .before .before .before .before .before .before .before .before .before .before .before .before .before .before .before .before .before .before .before .before in
     laws.not-read (S s) (s .args .call) (now (s .args .bits)) (s .args .place) (now (s .args .transcript)) (s .args .fill) (s .pre .0) (s .pre .1) _ _ _ _ (c .before .before .before .before .before .read-coded .ensures) (c .before .why .given .1)
 
 pub decode-coded-spec : {M : Type 1} → statement M
 decode-coded-spec =
     tie.close
     (tie.spec
-    (λ c. search needs)
-    (λ c. search needs)
     (λ c. refl)
     (λ c. refl)
     read-coded-requires

@@ -24,10 +24,10 @@ put-skip-requires : tie.Need-put-skip-requires
 put-skip-requires c κs = let s = c .before .before .before .before .before .before .before .before .before .before in let g = within-at s in (omega (arith, g .across, g .wide), omega (arith, g .down, g .high), omega (arith, laws.room (S s) (s .args .call) (now (s .args .bits)) (s .args .place) (now (s .args .transcript)) (s .args .fill) (s .pre .0)))
 
 apply-skip-requires : tie.Need-apply-skip-requires
-apply-skip-requires c κs = let s = c .before .before .before .before .before .before .before .before .before .before .before .before .before .before .before .before .before .before .before .before .before .before in let f = facts-at s in (within-at s, f .sized)
+apply-skip-requires c κs = let s = c .before .before .before .before .before .before .before .before .before .before .before .before .before .before .before .before .before .before .before .before in let f = facts-at s in (within-at s, f .sized)
 
 returns : tie.Need-returns
-returns c = let s = c .before .before .before .before .before .before .before .before .before .before .before .before .before .before .before .before .before .before .before .before .before .before .before .before .before .before .before .before .before .before .before .before in let a = c .before .before .before .before .before .before .before .before .before .apply-skip in let w = c .before .before .before .before .before .before .before .before .before .before .before .before .before .before .before .before .before .before .before .before .before .put-skip in laws.skipped (S s) (s .args .call) (now (s .args .bits)) (s .args .place) (now (s .args .transcript)) (s .args .fill) (s .pre .0) (s .pre .1) (w .result) (a .last .0) (a .last .1 .0) (a .last .1 .1 .0) (a .last .1 .1 .1 .0) (a .last .1 .1 .1 .1 .0) (w .last .0) (w .ensures) (a .ensures .0) (a .ensures .1 .0) (a .ensures .1 .1 .0) (a .ensures .1 .1 .1 .0) (a .ensures .1 .1 .1 .1)
+returns c = let s = c .before .before .before .before .before .before .before .before .before .before .before .before .before .before .before .before .before .before .before .before .before .before .before .before .before .before .before .before .before .before in let a = c .before .before .before .before .before .before .before .before .before .apply-skip in let w = c .before .before .before .before .before .before .before .before .before .before .before .before .before .before .before .before .before .before .before .put-skip in laws.skipped (S s) (s .args .call) (now (s .args .bits)) (s .args .place) (now (s .args .transcript)) (s .args .fill) (s .pre .0) (s .pre .1) (w .result) (a .last .0) (a .last .1 .0) (a .last .1 .1 .0) (a .last .1 .1 .1 .0) (a .last .1 .1 .1 .1 .0) (w .last .0) (w .ensures) (a .ensures .0) (a .ensures .1 .0) (a .ensures .1 .1 .0) (a .ensures .1 .1 .1 .0) (a .ensures .1 .1 .1 .1)
 
 pub decode-skip-spec : {M : Type 1} → statement M
 decode-skip-spec =
@@ -36,13 +36,11 @@ decode-skip-spec =
     put-skip-requires
     (λ c. search needs)
     (λ c. search needs)
-    (λ c. search needs)
-    (λ c. search needs)
     apply-skip-requires
     (λ c. c .before .before .before .before .before .before .before .before .before .apply-skip .kept .0)
     (λ c. c .before .before .before .before .before .before .before .before .before .apply-skip .kept .1 .0)
     (λ c. c .before .before .before .before .before .before .before .before .before .apply-skip .kept .1 .1 .0)
     (λ c. c .before .before .before .before .before .before .before .before .before .apply-skip .kept .1 .1 .1 .0)
     (λ c. c .before .before .before .before .before .before .before .before .before .apply-skip .kept .1 .1 .1 .1 .0)
-    (λ c. c .before .before .before .before .before .before .before .before .before .before .before .before .before .before .before .before .before .before .before .before .before .put-skip .kept .0)
+    (λ c. c .before .before .before .before .before .before .before .before .before .before .before .before .before .before .before .before .before .before .before .put-skip .kept .0)
     returns)

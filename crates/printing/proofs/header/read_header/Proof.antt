@@ -21,7 +21,7 @@ returns-5 : tie.Need-returns-5
 returns-5 c = no-quantiser (c .before .before .before .before .before .before .before .before .before .before .before .before .before .before .before .before .before .before .before .before .before .args .input .now) (sym (c .before .before .before .before .before .before .before .before .before .before .before .before .before .before .before .before .before .v .given .1) ∙ c .before .before .before .before .before .before .before .before .before .before .before .before .before .before .before .before .before .before .before .read-ranged .ensures) (sym (c .before .before .before .before .before .before .before .before .before .before .before .before .before .v2 .given .1) ∙ c .before .before .before .before .before .before .before .before .before .before .before .before .before .before .before .read-ranged2 .ensures) (sym (c .before .before .before .before .before .before .before .before .before .v3 .given .1) ∙ c .before .before .before .before .before .before .before .before .before .before .before .read-ranged3 .ensures) (sym (c .before .before .before .before .before .v4 .given .1) ∙ c .before .before .before .before .before .before .before .read-ranged4 .ensures) (sym (c .before .why5 .given .1) ∙ c .before .before .before .read-ranged5 .ensures)
 
 returns-6 : tie.Need-returns-6
-returns-6 c = whole (c .before .before .before .before .before .before .before .before .before .before .before .before .before .before .before .before .before .before .before .before .before .before .before .before .before .args .input .now) (sym (c .before .before .before .before .before .before .before .before .before .before .before .before .before .before .before .before .before .before .before .before .before .v .given .1) ∙ c .before .before .before .before .before .before .before .before .before .before .before .before .before .before .before .before .before .before .before .before .before .before .before .read-ranged .ensures) (sym (c .before .before .before .before .before .before .before .before .before .before .before .before .before .before .before .before .before .v2 .given .1) ∙ c .before .before .before .before .before .before .before .before .before .before .before .before .before .before .before .before .before .before .before .read-ranged2 .ensures) (sym (c .before .before .before .before .before .before .before .before .before .before .before .before .before .v3 .given .1) ∙ c .before .before .before .before .before .before .before .before .before .before .before .before .before .before .before .read-ranged3 .ensures) (sym (c .before .before .before .before .before .before .before .before .before .v4 .given .1) ∙ c .before .before .before .before .before .before .before .before .before .before .before .read-ranged4 .ensures) (sym (c .before .before .before .before .before .v5 .given .1) ∙ c .before .before .before .before .before .before .before .read-ranged5 .ensures) (sym (c .before .count .given .1) ∙ c .before .before .before .read-ranged6 .ensures)
+returns-6 c = whole (c .before .before .before .before .before .before .before .before .before .before .before .before .before .before .before .before .before .before .before .before .before .before .before .before .before .before .before .args .input .now) (sym (c .before .before .before .before .before .before .before .before .before .before .before .before .before .before .before .before .before .before .before .before .before .before .before .v .given .1) ∙ c .before .before .before .before .before .before .before .before .before .before .before .before .before .before .before .before .before .before .before .before .before .before .before .before .before .read-ranged .ensures) (sym (c .before .before .before .before .before .before .before .before .before .before .before .before .before .before .before .before .before .before .before .v2 .given .1) ∙ c .before .before .before .before .before .before .before .before .before .before .before .before .before .before .before .before .before .before .before .before .before .read-ranged2 .ensures) (sym (c .before .before .before .before .before .before .before .before .before .before .before .before .before .before .before .v3 .given .1) ∙ c .before .before .before .before .before .before .before .before .before .before .before .before .before .before .before .before .before .read-ranged3 .ensures) (sym (c .before .before .before .before .before .before .before .before .before .before .before .v4 .given .1) ∙ c .before .before .before .before .before .before .before .before .before .before .before .before .before .read-ranged4 .ensures) (sym (c .before .before .before .before .before .before .before .v5 .given .1) ∙ c .before .before .before .before .before .before .before .before .before .read-ranged5 .ensures) (sym (c .before .before .before .count .given .1) ∙ c .before .before .before .before .before .read-ranged6 .ensures)
 
 returns-7 : tie.Need-returns-7
 returns-7 c = no-count (c .before .before .before .before .before .before .before .before .before .before .before .before .before .before .before .before .before .before .before .before .before .before .before .before .before .args .input .now) (sym (c .before .before .before .before .before .before .before .before .before .before .before .before .before .before .before .before .before .before .before .before .before .v .given .1) ∙ c .before .before .before .before .before .before .before .before .before .before .before .before .before .before .before .before .before .before .before .before .before .before .before .read-ranged .ensures) (sym (c .before .before .before .before .before .before .before .before .before .before .before .before .before .before .before .before .before .v2 .given .1) ∙ c .before .before .before .before .before .before .before .before .before .before .before .before .before .before .before .before .before .before .before .read-ranged2 .ensures) (sym (c .before .before .before .before .before .before .before .before .before .before .before .before .before .v3 .given .1) ∙ c .before .before .before .before .before .before .before .before .before .before .before .before .before .before .before .read-ranged3 .ensures) (sym (c .before .before .before .before .before .before .before .before .before .v4 .given .1) ∙ c .before .before .before .before .before .before .before .before .before .before .before .read-ranged4 .ensures) (sym (c .before .before .before .before .before .v5 .given .1) ∙ c .before .before .before .before .before .before .before .read-ranged5 .ensures) (sym (c .before .why6 .given .1) ∙ c .before .before .before .read-ranged6 .ensures)
@@ -51,6 +51,8 @@ read-header-spec =
     (λ c. search needs)
     returns-5
     (λ c κs. search needs)
+    (λ c. search needs)
+    (λ c. search needs)
     (λ c. search needs)
     (λ c. search needs)
     returns-6

@@ -12,14 +12,14 @@ use Rattle.printing.proofs.print.put_records.Statement.{statement}
 use Rattle.printing.proofs.print.put_records.Tie as tie
 
 abbrev Inv-loop : tie.InvT-loop
-Inv-loop out₀ transcript at cols rows p₀ i₀ out p i = Going cols rows transcript out₀ at out p i
+Inv-loop out₀ transcript at grid p₀ i₀ out p i = Going (grid .cols) (grid .rows) transcript out₀ at out p i
 
 abbrev μ-loop : tie.MeasureT-loop
-μ-loop out₀ transcript at cols rows p₀ i₀ out p i = length transcript - i
+μ-loop out₀ transcript at grid p₀ i₀ out p i = length transcript - i
 
 -- the record at i, which ends at `next`
 ends : (c : tie.After-known-told Inv-loop μ-loop) → let s = c .before .before .before .before .before .before .before .before in
-    Record (c .before .next .given .0 .0) ≡ recordAnswer (c .before .before .before .before .before .loop .i) (parseRecord (s .args .cols) (s .args .rows) (drop (c .before .before .before .before .before .loop .i) (s .args .transcript .now)))
+    Record (c .before .next .given .0 .0) ≡ recordAnswer (c .before .before .before .before .before .loop .i) (parseRecord (s .args .grid .cols) (s .args .grid .rows) (drop (c .before .before .before .before .before .loop .i) (s .args .transcript .now)))
 ends c = sym (c .before .next .given .1) ∙ c .before .before .before .check-record .ensures
 
 returns : tie.Need-returns Inv-loop μ-loop

@@ -14,7 +14,7 @@ use Rattle.printing.proofs.print.put_run.Statement.{statement}
 use Rattle.printing.proofs.print.put_run.Tie as tie
 
 abbrev records-of : tie.Start → List ℕ
-records-of s = linesOf (records (s .args .cols) (s .args .rows) (s .args .transcript .now))
+records-of s = linesOf (records (s .args .grid .cols) (s .args .grid .rows) (s .args .transcript .now))
 
 abbrev all-of : tie.Start → List ℕ
 all-of s = records-of s ++ bitsLine (s .args .consumed) ++ stopLines (s .args .stop)
@@ -24,7 +24,7 @@ abbrev ToWrite : tie.Start → List ℕ → ℕ → List (List ℕ) → Type 0
 ToWrite s = Due (s .args .out .now) 0 (all-of s)
 
 most : (s : tie.Start) → 0 + length (all-of s) ≤ 100352
-most s = omega (arith, run-length (s .args .cols) (s .args .rows) (s .pre .0 .0) (s .pre .0 .1) (s .pre .0 .2) (s .pre .1 .0) (s .args .consumed) (s .fits .consumed .fits) (s .args .stop))
+most s = omega (arith, run-length (s .args .grid .cols) (s .args .grid .rows) (s .pre .0 .0) (s .pre .0 .1) (s .pre .0 .2) (s .pre .1 .0) (s .args .consumed) (s .fits .consumed .fits) (s .args .stop))
 
 room : (s : tie.Start) → 0 + length (all-of s) ≤ length (s .args .out .now)
 room s = omega (arith, most s, s .pre .1 .1)

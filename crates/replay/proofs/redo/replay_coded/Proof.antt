@@ -19,7 +19,7 @@ parse-motion-requires : tie.Need-parse-motion-requires
 unfolding noVectors noLevels
 parse-motion-requires c κs =
     let s = c .before .before .before .before .before .before .before .before .before .before in
-    (refl, refl, coded-read (s .args .frame .cols) (s .args .frame .rows) (s .args .bytes .now) (s .args .at) (s .args .head) (s .args .next) (s .pre .0 .2) .range .mode)
+    (refl, refl, coded-read (s .args .frame .grid .cols) (s .args .frame .grid .rows) (s .args .bytes .now) (s .args .at) (s .args .head) (s .args .next) (s .pre .0 .2) .range .mode)
 
 returns : tie.Need-returns
 returns c =
@@ -28,9 +28,9 @@ returns c =
 
 apply-coded-requires : tie.Need-apply-coded-requires
 apply-coded-requires c κs =
-    let s = c .before .before .before .before .before .before .before .before .before .before .before .before .before .before .before .before .before .before .before .before .before .before .before .before .before in
-    let m = c .before .before .before .before .before .before .before .before .before .before .before .before .before .before .parse-motion in
-    let is = c .before .before .before .before .before .before .before .before .before .before .coded .given .1 in (
+    let s = c .before .before .before .before .before .before .before .before .before .before .before .before .before .before .before .before .before .before .before .before .before .before .before in
+    let m = c .before .before .before .before .before .before .before .before .before .before .before .before .parse-motion in
+    let is = c .before .before .before .before .before .before .before .before .coded .given .1 in (
       (
         s .pre .0 .0,
         s .pre .0 .1,
@@ -44,11 +44,11 @@ apply-coded-requires c κs =
 
 returns-2 : tie.Need-returns-2
 returns-2 c =
-    let s = c .before .before .before .before .before .before .before .before .before .before .before .before .before .before .before .before .before .before .before .before .before .before .before .before .before .before .before .before .before .before .before .before .before .before .before in
-    let m = c .before .before .before .before .before .before .before .before .before .before .before .before .before .before .before .before .before .before .before .before .before .before .before .before .parse-motion in
+    let s = c .before .before .before .before .before .before .before .before .before .before .before .before .before .before .before .before .before .before .before .before .before .before .before .before .before .before .before .before .before .before .before .before .before in
+    let m = c .before .before .before .before .before .before .before .before .before .before .before .before .before .before .before .before .before .before .before .before .before .before .parse-motion in
     let a = c .before .before .before .before .before .before .before .before .before .apply-coded in
-    let coded = c .before .before .before .before .before .before .before .before .before .before .before .before .before .before .before .before .before .before .before .before .coded .given .0 .0 in
-    let is = c .before .before .before .before .before .before .before .before .before .before .before .before .before .before .before .before .before .before .before .before .coded .given .1 in
+    let coded = c .before .before .before .before .before .before .before .before .before .before .before .before .before .before .before .before .before .before .coded .given .0 .0 in
+    let is = c .before .before .before .before .before .before .before .before .before .before .before .before .before .before .before .before .before .before .coded .given .1 in
     coded-step (S s) (s .args .bytes .now) (s .args .at) (s .args .head) (s .args .next) (s .pre .0 .2) _ _ _ (m .ensures) _ _ is (stateOf (s .args .frame) (coded .quantiser) (now (s .args .ry)) (now (s .args .rcb)) (now (s .args .rcr)) (a .last .0) (a .last .1 .0) (a .last .1 .1 .0) (a .last .1 .1 .1 .0) (a .last .1 .1 .1 .1 .0))
     (applied-is (S s) (recordOf coded (m .last .0) (m .last .1 .0)) (no-skip (S s) (s .args .bytes .now) (s .args .at) (s .args .head) (s .args .next) (s .pre .0 .2) _ _ _ (m .ensures) _ _ is) (a .ensures .0) (a .ensures .1 .0) (a .ensures .1 .1 .0) (a .ensures .1 .1 .1 .0) (a .ensures .1 .1 .1 .1))
 
@@ -62,8 +62,6 @@ replay-coded-spec =
     (λ c. search needs)
     (λ c. search needs)
     returns
-    (λ c. search needs)
-    (λ c. search needs)
     (λ c. search needs)
     (λ c. search needs)
     apply-coded-requires

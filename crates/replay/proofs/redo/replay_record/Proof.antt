@@ -14,8 +14,8 @@ S c = stateOf (c .args .frame) (c .args .quantiser) (now (c .args .ry)) (now (c 
 
 apply-skip-requires : tie.Need-apply-skip-requires
 apply-skip-requires c κs =
-    let s = c .before .before .before .before .before .before .before .before .before .before .before .before .before .before .before .before .before .before .before in
-    let r = skip-read (s .args .frame .cols) (s .args .frame .rows) (s .args .bytes .now) (s .args .at) _ _ _ (sym (c .before .before .before .before .before .before .before .before .column .given .1) ∙ c .before .before .before .before .before .before .before .before .before .before .parse-place .ensures) in
+    let s = c .before .before .before .before .before .before .before .before .before .before .before .before .before .before .before .before .before in
+    let r = skip-read (s .args .frame .grid .cols) (s .args .frame .grid .rows) (s .args .bytes .now) (s .args .at) _ _ _ (sym (c .before .before .before .before .before .before .column .given .1) ∙ c .before .before .before .before .before .before .before .before .parse-place .ensures) in
     (record { across = r .across; down = r .down; wide = s .pre .0 .0; high = s .pre .0 .1 }, s .pre .1)
 
 replay-coded-requires : tie.Need-replay-coded-requires
@@ -25,9 +25,9 @@ replay-coded-requires c κs =
 
 returns : tie.Need-returns
 returns c =
-    let s = c .before .before .before .before .before .before .before .before .before .before .before .before .before .before .before .before .before .before .before .before .before .before .before .before .before .before .before .before .before in
+    let s = c .before .before .before .before .before .before .before .before .before .before .before .before .before .before .before .before .before .before .before .before .before .before .before .before .before .before .before in
     let a = c .before .before .before .before .before .before .before .before .before .apply-skip in
-    skip-step (S s) (s .args .bytes .now) (s .args .at) _ _ _ (sym (c .before .before .before .before .before .before .before .before .before .before .before .before .before .before .before .before .before .before .column .given .1) ∙ c .before .before .before .before .before .before .before .before .before .before .before .before .before .before .before .before .before .before .before .before .parse-place .ensures) (stateOf (s .args .frame) (s .args .quantiser) (now (s .args .ry)) (now (s .args .rcb)) (now (s .args .rcr)) (a .last .0) (a .last .1 .0) (a .last .1 .1 .0) (a .last .1 .1 .1 .0) (a .last .1 .1 .1 .1 .0))
+    skip-step (S s) (s .args .bytes .now) (s .args .at) _ _ _ (sym (c .before .before .before .before .before .before .before .before .before .before .before .before .before .before .before .before .column .given .1) ∙ c .before .before .before .before .before .before .before .before .before .before .before .before .before .before .before .before .before .before .parse-place .ensures) (stateOf (s .args .frame) (s .args .quantiser) (now (s .args .ry)) (now (s .args .rcb)) (now (s .args .rcr)) (a .last .0) (a .last .1 .0) (a .last .1 .1 .0) (a .last .1 .1 .1 .0) (a .last .1 .1 .1 .1 .0))
     (skip-applied (S s) _ _ (a .ensures .0) (a .ensures .1 .0) (a .ensures .1 .1 .0) (a .ensures .1 .1 .1 .0) (a .ensures .1 .1 .1 .1))
 
 returns-3 : tie.Need-returns-3
@@ -40,8 +40,6 @@ replay-record-spec =
     tie.close
     (tie.spec
     (λ c κs. search needs)
-    (λ c. search needs)
-    (λ c. search needs)
     (λ c. search needs)
     (λ c. search needs)
     (λ c. search needs)
