@@ -20,8 +20,9 @@ echo "The gate: every crate proved from nothing, every must-fail edit tried, eve
 # A pipeline's status is that of its end: rt's own goes through a file.
 {
     status=0
-    # rt starts its checks in batches and waits for the last of each: more of them than processors leaves none idle.
-    RT_JOBS=${RT_JOBS:-8} rt ci 2>&1 || status=$?
+    # By default rt makes as many checks at a time as there are processors. More of them leave none idle while the crates are
+    # proved, but an edit then takes a third more of a processor's time: the checks drive each other out of its cache.
+    rt ci 2>&1 || status=$?
     echo "$status" > "$kept/status"
 } | tools/gate/progress.sh "$kept/printed"
 status=$(cat "$kept/status")

@@ -1,8 +1,8 @@
 -- A turn of the loop that reads a universal code, at the definition.
 -- Assumes nothing.
-use mathlib.Core.Path.{_≡_, refl, sym, ap, _∙_}
+use mathlib.Core.Path.{_≡_, refl, ap}
 use mathlib.Core.Bool.{Bool, true, false}
-use mathlib.Core.List.{List, [], _∷_}
+use mathlib.Core.List.{List}
 use Prim.Native.Nat.{ℕ, zero, suc, _+_, _-_, _*_, _/_, _^_, _<_, _≤_}
 use native.Mathlib.Nat.{mul-le-mul-right, mul-le-mul-left, le-trans, pow-suc, mul-one}
 use native.Mathlib.Omega.{arith}

@@ -9,11 +9,11 @@ use native.Mathlib.Nat.{pos-of-div-pos, div-one, div-lt-iff-lt-mul}
 use native.Mathlib.Numerals.{add-one, one-add}
 use native.Mathlib.Omega.{arith}
 use borrow.Author.Tests.{le-leb, lt-leb, eqb-true, eqb-false, leb-true, leb-false, eq-eqb, ne-eqb}
-use lib.Dec.{lit<, lit≤, leb, eqb}
+use lib.Dec.{lit<, lit≤, leb}
 use lib.Pow.{pow-pos, pow-mono, shr-shr}
 use lib.ListN.{length}
 use Rattle.refusal.specs.Got.{Got, got, refused, after}
-use Rattle.refusal.specs.Format.{Starts, Came, Format}
+use Rattle.refusal.specs.Format.{Came, Format}
 use Rattle.refusal.proofs.Formats.{got-value, got-count, never}
 use Rattle.bits.specs.Bits.{odd}
 use Rattle.bits.specs.Code.{codeFrom, code, CodeRange, bitValue, marked, placesIn, codeBits}

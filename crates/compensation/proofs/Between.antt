@@ -1,6 +1,6 @@
 -- A compensated sample lies between the least and the greatest of its four taps, at every phase; whole samples are the taps themselves; an accepted block is made of such samples.
 -- Assumes nothing.
-use mathlib.Core.Path.{_≡_, refl}
+use mathlib.Core.Path.{_≡_}
 use mathlib.Core.Bool.{Bool, true, false, _&&_}
 use mathlib.Core.List.{List}
 use Prim.Native.Nat.{ℕ, _+_, _*_, _/_, _≤_, _<_, min, max}

@@ -1,6 +1,5 @@
 -- The number that each entry returns: 0 or a count where the work is done, else minus the refusal's number.
 -- Assumes nothing.
-use Prim.Native.Nat.{ℕ}
 use lib.IntN.{ℤ, pos, negℤ}
 use Rattle.refusal.specs.Refusal.{numberOf}
 use Rattle.refusal.specs.declared.Refusal.{Refusal}

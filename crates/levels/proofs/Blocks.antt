@@ -12,7 +12,7 @@ use Rattle.refusal.specs.Format.{Format}
 use Rattle.refusal.proofs.Formats.{renamed}
 use Rattle.levels.specs.Book.{positions}
 use Rattle.levels.specs.Scan.{scan, raster, unraster}
-use Rattle.levels.specs.Levels.{zeros, levels, LevelsCoded, LevelsRange, block, blockBits, BlockRange}
+use Rattle.levels.specs.Levels.{zeros, LevelsCoded, LevelsRange, block, blockBits, BlockRange}
 use Rattle.levels.specs.declared.svq3_coeff.ResidualBook.{ResidualBook}
 use Rattle.levels.specs.declared.svq3_coeff.ResidualBook.the-variants.{NormalScan}
 use Rattle.levels.proofs.Rasters.{length-raster, length-unraster, unraster-at, unraster-raster, raster-unraster}

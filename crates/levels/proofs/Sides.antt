@@ -9,7 +9,7 @@ use native.Mathlib.Omega.{arith}
 use borrow.Author.Tests.{lt-ltb, eq-eqb, ne-eqb}
 use lib.Dec.{ltb, eqb}
 use lib.IntN.{ℤ}
-use lib.ListN.{take, drop}
+use lib.ListN.{drop}
 use lib.Seq.{sets, drop-drop}
 use Rattle.ints.specs.Z.{if_then_else_}
 use Rattle.refusal.specs.Got.{Got, got, refused, after, andThen, mapGot}
@@ -22,7 +22,6 @@ use Rattle.levels.proofs.Gots.{after-zero, after-after}
 use Rattle.levels.specs.Items.{itemCoded, itemBook, itemStart, itemCount, itemPlace, itemLevels, readLists, writeLists, readItem, readItems}
 use Rattle.levels.specs.InnerSides.{readSide}
 use Rattle.levels.proofs.Turns.{when-true, when-false}
-use Rattle.levels.proofs.Sets.{drop-of-take}
 use Rattle.levels.proofs.ListKinds.{is-luma, is-dc, is-ac, luma-group, dc-group, ac-group}
 use Rattle.levels.proofs.Lists.{next-place}
 use Rattle.levels.proofs.Walks.{one-coded, one-passed}

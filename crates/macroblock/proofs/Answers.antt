@@ -14,7 +14,7 @@ use Rattle.state.specs.declared.Asked.the-variants.{Yes, No}
 use Rattle.record.specs.Record.{Record}
 use Rattle.reading.specs.Read.{readMacroblock}
 use Rattle.state.specs.State.{State, contextOf}
-use Rattle.macroblock.specs.Decode.{Outcome, kept, outcomeOf, unlessRefused, asked, decoded}
+use Rattle.macroblock.specs.Decode.{Outcome, kept, outcomeOf, asked, decoded}
 use Rattle.macroblock.specs.Entry.{cursorBy}
 use Rattle.macroblock.specs.declared.MbReport.{MbReport}
 use Rattle.macroblock.specs.declared.MbAnswer.{MbAnswer}

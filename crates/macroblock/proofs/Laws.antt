@@ -1,13 +1,12 @@
 -- A call at each answer, over plain lists and numbers.
 -- Assumes nothing.
-use mathlib.Core.Path.{_≡_, refl, sym, ap, _∙_}
+use mathlib.Core.Path.{_≡_, sym, ap, _∙_}
 use mathlib.Core.List.{List}
 use Prim.Native.Nat.{ℕ, _+_, _-_, _≤_, _<_}
 use native.Mathlib.Omega.{arith}
 use borrow.Author.Tests.{eq-eqb, ne-eqb}
 use lib.IntN.{ℤ}
 use lib.ListN.{length, drop}
-use lib.Seq.{sets}
 use Rattle.ints.specs.Z.{if_then_else_}
 use Rattle.ints.proofs.Fits.{if-no}
 use Rattle.refusal.specs.Got.{Got, got, refused}
@@ -32,7 +31,7 @@ use Rattle.reading.specs.declared.svq3_frame.ReadAnswer.the-variants as read
 use Rattle.reading.proofs.Answers.{ReadBy, was-read, read-refused, read-coded, read-in-range, read-head-range, read-no-skip}
 use Rattle.apply.specs.Apply.{appliedLuma, appliedChroma, appliedField}
 use Rattle.state.specs.State.{State, fieldOf, contextOf, lengthsOf}
-use Rattle.macroblock.specs.Decode.{Outcome, quantiserAfter, applied, outcomeOf, unlessRefused, asked, decoded}
+use Rattle.macroblock.specs.Decode.{quantiserAfter, applied, outcomeOf, asked, decoded}
 use Rattle.macroblock.specs.Entry.{mbLeft, quantiserBy, cursorBy}
 use Rattle.state.specs.declared.Cursor.{Cursor}
 use Rattle.macroblock.specs.declared.MbAnswer.{MbAnswer}

@@ -1,18 +1,18 @@
 -- Laws of what a plane holds afterwards: rows of stores are `painted`, what was painted is read back, all else is as it was, and what lies apart may be painted in either order.
 -- Assumes nothing.
-use mathlib.Core.Path.{_≡_, refl, sym, ap, _∙_, subst}
-use mathlib.Core.Logic.{_≢_, _⊎_, inl, inr, ⊎-elim}
+use mathlib.Core.Path.{_≡_, refl, sym, ap, _∙_}
+use mathlib.Core.Logic.{_≢_, _⊎_, ⊎-elim}
 use mathlib.Core.Bool.{Bool, true, false, cond, _&&_, true≢false, false≢true}
 use mathlib.Core.List.{List, [], _∷_}
-use Prim.Native.Nat.{ℕ, zero, suc, _+_, _-_, _*_, _/_, _%_, _≤_, _<_, suc-le-suc}
-use native.Mathlib.Nat.{add-assoc, mul-le-mul-right, mul-le-mul-left, mul-suc, mul-assoc, mul-comm, mul-left-comm, mul-pos, suc-mul, le-mul-of-pos-right, eq-or-lt-of-le, le-of-suc-le-suc, not-suc-le-zero, div-add-mod', mod-lt}
+use Prim.Native.Nat.{ℕ, zero, suc, _+_, _-_, _*_, _/_, _%_, _≤_, _<_}
+use native.Mathlib.Nat.{add-assoc, mul-le-mul-right, mul-le-mul-left, mul-suc, mul-assoc, mul-comm, mul-left-comm, mul-pos, suc-mul, le-mul-of-pos-right, eq-or-lt-of-le, le-of-suc-le-suc, not-suc-le-zero, div-add-mod'}
 use native.Mathlib.Numerals.{add-one}
 use native.Mathlib.Omega.{arith}
 use lib.Dec.{leb, ltb}
 use lib.Arith.{digits-div, digits-mod}
 use lib.ListN.{length, getD, set, length-set}
 use lib.Seq.{getD-set-same, getD-set-other, ext-getD}
-use borrow.Author.Tests.{ltb-true, ltb-false, leb-true, leb-false, lt-ltb, le-leb}
+use borrow.Author.Tests.{ltb-true, leb-true, lt-ltb, le-leb}
 use Rattle.picture.specs.Painted.{eachAt, within, inside, painted, Inside}
 use Rattle.picture.specs.Picture.{seen, copied}
 use Rattle.picture.specs.InnerPicture.{Within}

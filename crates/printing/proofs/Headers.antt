@@ -2,12 +2,12 @@
 -- Assumes nothing.
 use mathlib.Core.Path.{_≡_, refl, sym, ap, _∙_}
 use mathlib.Core.Bool.{true, false, _&&_}
-use mathlib.Core.List.{List, [], _∷_}
-use Prim.Native.Nat.{ℕ, zero, suc, _+_, _-_, _≤_, _<_}
+use mathlib.Core.List.{List, _∷_}
+use Prim.Native.Nat.{ℕ, suc, _+_, _-_, _≤_, _<_}
 use native.Mathlib.Nat.{add-zero}
 use native.Mathlib.Omega.{arith}
 use lib.Dec.{leb}
-use lib.ListN.{length, drop}
+use lib.ListN.{drop}
 use lib.Seq.{drop-drop}
 use Rattle.ints.specs.Z.{if_then_else_}
 use Rattle.refusal.specs.Got.{Got, got, refused, after, andThen, mapGot}
@@ -26,9 +26,7 @@ use Rattle.levels.proofs.Turns.{when-true, when-false}
 use Rattle.printing.specs.Header.{ranged, headerIn, callsFrom}
 use Rattle.printing.specs.InnerHeader.{headerAnswer, listEnd}
 use Rattle.printing.specs.declared.header.Header.{Header}
-use Rattle.printing.specs.declared.header.HeaderAnswer.{HeaderAnswer}
 use Rattle.printing.specs.declared.header.HeaderAnswer.the-variants as header
-use Rattle.printing.specs.declared.header.ListEnd.{ListEnd}
 use Rattle.printing.specs.declared.header.ListEnd.the-variants as list
 
 -- ---- a number in a range

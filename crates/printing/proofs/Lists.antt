@@ -3,22 +3,21 @@
 use mathlib.Core.Path.{_≡_, refl, sym, ap, _∙_}
 use mathlib.Core.Bool.{Bool, true, false, _&&_, false≢true}
 use mathlib.Core.List.{List, [], _∷_}
-use Prim.Native.Nat.{ℕ, zero, suc, _+_, _-_, _≤_, _<_}
+use Prim.Native.Nat.{ℕ, zero, suc, _+_, _-_, _≤_}
 use native.Mathlib.Omega.{arith}
 use borrow.Author.Tests.{leb-true}
 use lib.Dec.{leb}
-use lib.ListN.{length, take, drop, length-drop, length-take}
+use lib.ListN.{take, drop, length-take}
 use lib.Seq.{take-take}
 use Rattle.ints.specs.Z.{if_then_else_}
-use Rattle.refusal.specs.Got.{Got, got, refused, after, andThen, mapGot}
-use Rattle.refusal.specs.declared.Refusal.{Refusal}
+use Rattle.refusal.specs.Got.{got, refused, andThen, mapGot}
 use Rattle.refusal.specs.declared.Refusal.the-variants.{FieldRange}
 use Rattle.refusal.proofs.Formats.{got-value, got-count, never}
 use Rattle.refusal.proofs.Local.{Local, of-format, of-got, of-refused, then-local, map-local, apart}
 use Rattle.number.specs.Number.{readNumber}
 use Rattle.number.proofs.Numbers.{number-format}
 use Rattle.levels.proofs.Sets.{drop-of-take}
-use Rattle.refusal.proofs.Lists.{mapped, untilAll, until-end, until-first}
+use Rattle.refusal.proofs.Lists.{mapped, until-end, until-first}
 use Rattle.state.specs.declared.Call.{Call}
 use Rattle.run.specs.Calls.{callIn, callsIn, calls}
 use Rattle.run.proofs.Listing.{call-takes}

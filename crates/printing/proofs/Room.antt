@@ -41,7 +41,6 @@ use Rattle.run.specs.Calls.{callIn}
 use Rattle.state.specs.State.{Context, State, contextOf, lengthsOf}
 use Rattle.reading.specs.Read.{Moving, moved, readVectors, quantiserIn, readQuantiser, recordOf, atFirst, readResidual, readCoded, readMacroblock}
 use Rattle.macroblock.specs.Decode.{applied, Outcome, kept, outcomeOf, unlessRefused, decoded}
-use Rattle.macroblock.specs.declared.MbAnswer.{MbAnswer}
 use Rattle.macroblock.specs.declared.MbAnswer.the-variants.{Refused}
 use Rattle.run.specs.Run.{Ran, ended, withCall, onward, ranFrom, ran, stopOf}
 use Rattle.run.specs.declared.Stop.the-variants.{By}

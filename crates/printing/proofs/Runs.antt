@@ -2,9 +2,9 @@
 -- Assumes nothing.
 use mathlib.Core.Path.{_≡_, refl, sym, ap, _∙_, subst}
 use mathlib.Core.List.{List, [], _∷_, _++_}
-use Prim.Native.Nat.{ℕ, _+_, _-_, _*_, _≤_}
+use Prim.Native.Nat.{ℕ, _+_, _-_, _≤_}
 use native.Mathlib.Omega.{arith}
-use lib.ListN.{length, take, drop, replicate, length-replicate}
+use lib.ListN.{length, take, drop, length-replicate}
 use lib.Seq.{sets, length-sets, length-take-le}
 use Rattle.refusal.specs.Got.{Got, got, refused}
 use Rattle.bits.specs.Bits.{bitList}
@@ -18,7 +18,6 @@ use Rattle.state.specs.State.{State}
 use Rattle.macroblock.specs.Decode.{applied, Outcome, outcomeOf, decoded}
 use Rattle.run.specs.Run.{Ran, ended, withCall, onward, ranFrom, ran, ranOf, ranList, transcriptOf}
 use Rattle.replay.specs.InnerRecorded.{Recorded}
-use Rattle.run.specs.declared.Stop.the-variants.{Done, By}
 use Rattle.run.specs.Left.{listLeft, leaves}
 use Rattle.run.specs.declared.Report.{Report}
 use Rattle.printing.specs.Text.{bitsLine}

@@ -10,14 +10,13 @@ use native.Mathlib.Omega.{arith}
 use borrow.Author.Tests.{lt-ltb, le-ltb, ltb-true, ltb-false}
 use lib.Dec.{ltb, lit<}
 use lib.ListN.{length, getD, drop, set, length-append, drop-of-length-le}
-use lib.Seq.{sets, length-sets, drop-cons}
-use Rattle.ints.specs.Z.{if_then_else_}
+use lib.Seq.{length-sets, drop-cons}
 use Rattle.refusal.specs.Refusal.{numberOf}
 use Rattle.refusal.specs.declared.Refusal.{Refusal}
 use Rattle.refusal.specs.declared.Refusal.the-variants.{GridSize, StateLength, MissingReference, ReferenceLength, CallRange, QuantiserRange, BitPlace, TranscriptRoom, Truncated, BadBitWidth, InvalidFrameCode, InvalidQuantiser, LevelPosition, NumberForm, FieldRange}
 use Rattle.levels.proofs.Turns.{when-true, when-false}
 use Rattle.transcript.specs.Written.{Written}
-use Rattle.transcript.proofs.Writing.{joined, written-on, Still, still-more, still-fits, still-none}
+use Rattle.transcript.proofs.Writing.{joined, written-on, Still, still-more, still-fits}
 use Rattle.printing.specs.Text.{hexDigit, hexBytes, hexLine, digits, decimal, line, countLine, bitsLine, refusedLine}
 
 -- ---- one byte

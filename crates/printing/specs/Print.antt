@@ -1,8 +1,7 @@
 -- What the printer prints for an input.
 -- Assumes nothing.
 use mathlib.Core.List.{List, [], _∷_, _++_}
-use Prim.Native.Nat.{ℕ, _*_, _%_, _/_}
-use lib.Dec.{eqb}
+use Prim.Native.Nat.{ℕ, _*_}
 use lib.IntN.{pos}
 use lib.ListN.{drop, replicate}
 use Rattle.refusal.specs.Got.{Got, got, refused}
@@ -13,7 +12,6 @@ use Rattle.record.specs.Write.{recordBytes}
 use Rattle.transcript.specs.Records.{records}
 use Rattle.state.specs.State.{State}
 use Rattle.macroblock.specs.Entry.{stateOf}
-use Rattle.state.specs.declared.Frame.{Frame}
 use Rattle.run.specs.Run.{Ran, ran, transcriptOf}
 use Rattle.run.specs.declared.Stop.{Stop}
 use Rattle.run.specs.declared.Stop.the-variants.{Done, By}

@@ -1,7 +1,7 @@
 // The run of an input, and what is printed of it.
 ghost use mathlib.Core.Path.{_≡_};
 ghost use mathlib.Core.List.{_++_};
-ghost use Prim.Native.Nat.{_+_, _*_, _≤_, _^_, _<_};
+ghost use Prim.Native.Nat.{_+_, _*_, _≤_, _<_};
 ghost use lib.ListN.{length, take};
 ghost use Rattle.transcript.specs.Records.{records};
 ghost use Rattle.transcript.specs.Written.{Written};

@@ -5,7 +5,7 @@ use mathlib.Core.List.{List}
 use Prim.Native.Nat.{ℕ, zero, suc}
 use lib.Dec.{eqb}
 use Rattle.ints.specs.Z.{if_then_else_}
-use Rattle.refusal.specs.Got.{Got, got, refused}
+use Rattle.refusal.specs.Got.{Got}
 use Rattle.refusal.proofs.Local.{Local, of-format, of-got, of-refused, then-local, map-local}
 use Rattle.bits.specs.Signed.{signedCode}
 use Rattle.bits.proofs.SignedCode.{signed-format}

@@ -3,13 +3,12 @@
 use mathlib.Core.Path.{_≡_, refl, sym, ap, _∙_, subst}
 use mathlib.Core.Bool.{Bool, true, false, _&&_, not, false≢true}
 use mathlib.Core.List.{List, []}
-use Prim.Native.Nat.{ℕ, _+_, _≤_, _<_}
+use Prim.Native.Nat.{ℕ, _+_, _≤_}
 use native.Mathlib.Nat.{add-zero}
 use native.Mathlib.Omega.{arith}
 use borrow.Author.Tests.{ltb-true, le-leb, le-ltb}
 use lib.Dec.{T, eqb}
 use lib.IntN.{ℤ, pos, negsuc, natAbs, _+ℤ_, _-ℤ_}
-use lib.ListN.{drop}
 use lib.Signed.{nonNeg, ltZ, leZ}
 use mir.Syntax.{w32}
 use mir.Val.{Fits}
@@ -20,7 +19,7 @@ use Rattle.refusal.specs.Got.{Got, got, refused, after, andThen}
 use Rattle.refusal.specs.declared.Refusal.{Refusal}
 use Rattle.refusal.specs.declared.Refusal.the-variants.{InvalidQuantiser}
 use Rattle.refusal.proofs.Formats.{got-value, got-count, never}
-use Rattle.refusal.proofs.Local.{apart, Took, took-none, took-format, took-then}
+use Rattle.refusal.proofs.Local.{apart, Took, took-none, took-format}
 use Rattle.bits.specs.Signed.{signedCode, signedBits}
 use Rattle.bits.specs.InnerSigned.{signedAnswer}
 use Rattle.bits.specs.declared.svq3_mv.SignedAnswer.the-variants as signed

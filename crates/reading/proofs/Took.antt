@@ -2,22 +2,22 @@
 -- Assumes nothing.
 use mathlib.Core.Path.{_≡_, refl, sym, ap, _∙_, subst}
 use mathlib.Core.Bool.{Bool, true, false}
-use mathlib.Core.List.{List, [], _∷_, _++_, append-assoc}
+use mathlib.Core.List.{List, [], _++_, append-assoc}
 use Prim.Native.Nat.{ℕ, zero, suc, _+_, _-_, _*_, _≤_, _<_}
 use native.Mathlib.Omega.{arith}
-use borrow.Author.Tests.{eqb-true, eqb-false, eq-eqb, ne-eqb}
+use borrow.Author.Tests.{eqb-true, eqb-false, ne-eqb}
 use lib.Dec.{eqb, lit≤, lit<}
 use lib.IntN.{ℤ, pos}
 use lib.ListN.{length, getD, drop, replicate, length-drop, length-replicate, getD-replicate}
 use lib.Seq.{ext-getD, getD-drop}
 use Rattle.ints.specs.Z.{if_then_else_}
-use Rattle.refusal.specs.Got.{Got, got, refused, andThen, mapGot}
+use Rattle.refusal.specs.Got.{Got, got, refused, mapGot}
 use Rattle.refusal.proofs.Formats.{got-value, got-count, never}
 use Rattle.refusal.proofs.Local.{apart, Took, took-none, took-format, took-then}
 use Rattle.levels.specs.Pattern.{pattern, patternBits}
 use Rattle.levels.proofs.Patterns.{pattern-format}
 use Rattle.vectors.specs.Modes.{numMotionVectors}
-use Rattle.vectors.specs.Precision.{precision, precisionNumber, precisionBits, precisionOf}
+use Rattle.vectors.specs.Precision.{precision, precisionBits}
 use Rattle.vectors.proofs.Precisions.{precision-format, of-number, number-most}
 use Rattle.vectors.proofs.Partitions.{num-most}
 use Rattle.vectors.specs.declared.svq3_mb.Svq3MvPrecision.{Svq3MvPrecision}
@@ -30,7 +30,7 @@ use Rattle.levels.proofs.ItemFormats.{items-format}
 use Rattle.state.specs.State.{Context}
 use Rattle.reading.specs.Read.{Moving, readVectors, readQuantiser, recordOf, atFirst, readResidual, readCoded, readMacroblock}
 use Rattle.reading.specs.Bits.{callOf, vectorBits, quantiserBits, codedBits, bitsOf}
-use Rattle.reading.proofs.Vectors.{Grown, grown, vectors-took}
+use Rattle.reading.proofs.Vectors.{grown, vectors-took}
 use Rattle.reading.proofs.Quantiser.{quantiser-most, quantiser-took}
 
 -- the value before f

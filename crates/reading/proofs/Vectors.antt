@@ -1,28 +1,25 @@
 -- The vectors of a macroblock: what reading them leaves, and that the bits read are those of the vectors where nothing was clipped.
 -- Assumes nothing.
-use mathlib.Core.Path.{_≡_, refl, sym, ap, _∙_, subst}
+use mathlib.Core.Path.{_≡_, refl, sym, _∙_, subst}
 use mathlib.Core.Logic.{_≢_}
 use mathlib.Core.Bool.{Bool, true, false}
 use mathlib.Core.List.{List, [], _∷_, _++_, append-assoc}
 use Prim.Native.Nat.{ℕ, zero, suc, _+_, _*_, _≤_, _<_, _^_}
-use native.Mathlib.Nat.{add-zero}
 use native.Mathlib.Omega.{arith}
 use lib.IntN.{ℤ, pos}
 use lib.Signed.{mag}
 use lib.ListN.{length, getD, set, drop, length-set}
 use lib.Seq.{getD-set-same, getD-set-other}
-use Rattle.refusal.specs.Got.{Got, got, refused, andThen}
-use Rattle.refusal.proofs.Formats.{got-value, got-count, never}
+use Rattle.refusal.specs.Got.{got}
+use Rattle.refusal.proofs.Formats.{got-value, got-count}
 use Rattle.refusal.proofs.Local.{apart, Took, took-none, took-format, took-then}
 use Rattle.bits.specs.Code.{bitValue}
 use Rattle.bits.specs.Signed.{signedCode, signedBits}
 use Rattle.bits.proofs.SignedCode.{signed-format}
 use Rattle.picture.specs.Field.{Field}
 use Rattle.vectors.specs.Units.{storedPart, clippedPart}
-use Rattle.vectors.specs.Difference.{differenceOf}
 use Rattle.vectors.proofs.Moves.{stored-fits, difference-back}
 use Rattle.vectors.specs.declared.svq3_mb.Svq3MvPrecision.{Svq3MvPrecision}
-use Rattle.vectors.specs.declared.svq3_frame.Vector.{Vector}
 use Rattle.state.specs.declared.Call.{Call}
 use Rattle.reading.specs.Read.{Moving, moved, predictorAt, storedAt, readVectors}
 use Rattle.reading.specs.Bits.{vectorBits}

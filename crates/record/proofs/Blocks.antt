@@ -10,19 +10,17 @@ use lib.Dec.{lit<}
 use lib.IntN.{ℤ, pos, negsuc, natAbs}
 use lib.Signed.{mag}
 use lib.ListN.{length, getD, take, List·getD-eq-default}
-use Rattle.refusal.specs.Format.{Format}
 use Rattle.number.proofs.Numbers.{lt-or-le}
 use Rattle.levels.specs.Book.{positions}
-use Rattle.levels.specs.Levels.{zeros, block, blockBits, BlockRange}
+use Rattle.levels.specs.Levels.{zeros, blockBits, BlockRange}
 use Rattle.levels.specs.declared.svq3_coeff.ResidualBook.{ResidualBook}
 use Rattle.levels.specs.declared.svq3_coeff.ResidualBook.the-variants.{NormalScan, ChromaDc}
 use Rattle.levels.proofs.Blocks.{block-format, ac-block}
 use Rattle.levels.proofs.Books.{most}
 use Rattle.levels.proofs.Ranges.{block-most}
-use Rattle.levels.specs.Items.{noLevels, itemBook, itemStart, itemCount, itemLevels, readItems, itemsBits, ListsRange, ItemsRange}
+use Rattle.levels.specs.Items.{itemBook, itemStart, itemCount, itemLevels, ListsRange, ItemsRange}
 use Rattle.record.specs.Range.{ItemRange, I32s}
 use Rattle.levels.proofs.ListKinds.{by-kind, is-luma, is-dc, is-ac, start-fits}
-use Rattle.levels.proofs.Lists.{lists-format}
 
 -- ---- what bits can say is any i32
 narrow : (z : ℤ) (m : ℕ) → natAbs z ≤ m → m < 2 ^ 31 → mag z < 2 ^ 31

@@ -1,14 +1,14 @@
 -- Laws of formats: what is read determines what was taken, and what was taken what is read; formats in turn are a format.
 -- Assumes nothing.
 use mathlib.Core.Path.{_≡_, refl, sym, ap, _∙_, subst}
-use mathlib.Core.List.{List, [], _∷_, _++_, append-assoc}
+use mathlib.Core.List.{List, [], _++_, append-assoc}
 use mathlib.Core.Logic.{_↔_}
 use Prim.Native.Nat.{ℕ, _+_, _≤_}
 use native.Mathlib.Omega.{arith}
 use lib.ListN.{length, take, drop, length-append, take-append-drop}
 use lib.Seq.{take-at, drop-at}
 use Rattle.refusal.specs.Got.{Got, got, refused, after, andThen, mapGot}
-use Rattle.refusal.specs.Format.{Starts, Came, Format}
+use Rattle.refusal.specs.Format.{Came, Format}
 use Rattle.refusal.specs.declared.Refusal.{Refusal}
 
 -- the value and the count of an answer

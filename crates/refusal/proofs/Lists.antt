@@ -9,7 +9,6 @@ use lib.ListN.{length, drop, length-drop, drop-of-length-le}
 use lib.Seq.{drop-drop}
 use Rattle.refusal.specs.Got.{Got, got, refused, after, andThen, mapGot}
 use Rattle.refusal.specs.declared.Refusal.{Refusal}
-use Rattle.refusal.specs.declared.Refusal.the-variants.{NumberForm}
 use Rattle.refusal.proofs.Formats.{got-value, got-count, never}
 use Rattle.refusal.proofs.Local.{apart}
 use Rattle.refusal.specs.Until.{untilEnd}

@@ -1,12 +1,11 @@
 -- A replay, a record at a time: what the records that are left will leave is what all of them leave.
 -- Assumes nothing.
-use mathlib.Core.Path.{_≡_, refl, sym, ap, _∙_}
+use mathlib.Core.Path.{_≡_, sym, ap, _∙_}
 use mathlib.Core.List.{List}
 use Prim.Native.Nat.{ℕ, _+_, _≤_, _<_}
 use native.Mathlib.Omega.{arith}
 use lib.ListN.{length, drop, length-drop}
-use Rattle.refusal.specs.Got.{Got, got}
-use Rattle.record.specs.Record.{Record}
+use Rattle.refusal.specs.Got.{got}
 use Rattle.record.specs.Parse.{parseRecord}
 use Rattle.refusal.proofs.Lists.{Next}
 use Rattle.transcript.specs.Records.{records}

@@ -3,7 +3,7 @@
 use mathlib.Core.Path.{_≡_, refl, sym, ap, _∙_}
 use mathlib.Core.Bool.{true}
 use mathlib.Core.List.{List}
-use Prim.Native.Nat.{ℕ, _*_, _≤_}
+use Prim.Native.Nat.{ℕ}
 use native.Mathlib.Omega.{arith}
 use lib.ListN.{length}
 use Rattle.refusal.specs.Got.{Got, got, refused}
@@ -19,7 +19,7 @@ use Rattle.transcript.specs.Records.{records}
 use Rattle.transcript.specs.Check.{checkAnswer}
 use Rattle.transcript.specs.declared.check.CheckAnswer.the-variants as check
 use Rattle.state.specs.State.{State, lengthsOf}
-use Rattle.replay.specs.Replay.{appliedAll, Replay, replayOf, unlessAsked, replayed}
+use Rattle.replay.specs.Replay.{appliedAll, replayOf, replayed}
 use Rattle.replay.specs.InnerRecorded.{Recorded, appliedOf, allLeft}
 use Rattle.replay.specs.declared.ReplayAnswer.the-variants.{Replayed, Refused}
 

@@ -1,11 +1,11 @@
 -- A run over a list, a call at a time: what the calls that are left will leave is what the whole list leaves.
 -- Assumes nothing.
-use mathlib.Core.Path.{_≡_, refl, sym, ap, _∙_, subst}
-use mathlib.Core.List.{List, [], _∷_}
+use mathlib.Core.Path.{_≡_, refl, sym, ap, _∙_}
+use mathlib.Core.List.{List, _∷_}
 use Prim.Native.Nat.{ℕ, suc, _+_, _-_, _≤_, _<_}
 use native.Mathlib.Omega.{arith}
 use lib.ListN.{length, drop, length-drop}
-use Rattle.refusal.specs.Got.{Got, got, refused}
+use Rattle.refusal.specs.Got.{Got}
 use Rattle.refusal.specs.declared.Refusal.{Refusal}
 use Rattle.state.specs.declared.Call.{Call}
 use Rattle.run.specs.Calls.{callIn, calls}
@@ -15,16 +15,15 @@ use Rattle.run.specs.declared.calls.CallAnswer.the-variants as one
 use Rattle.refusal.proofs.Lists.{Next}
 use Rattle.run.proofs.Listing.{calls-none, calls-next}
 use Rattle.state.specs.State.{State}
-use Rattle.macroblock.specs.Decode.{Outcome, kept, decoded}
+use Rattle.macroblock.specs.Decode.{Outcome, decoded}
 use Rattle.macroblock.specs.Entry.{quantiserBy}
 use Rattle.macroblock.proofs.Answers.{refused-kept, accepted-on}
 use Rattle.macroblock.specs.declared.MbReport.{MbReport}
 use Rattle.macroblock.specs.declared.MbAnswer.{MbAnswer}
 use Rattle.macroblock.specs.declared.MbAnswer.the-variants.{Accepted, Refused}
-use Rattle.run.specs.Run.{Ran, ended, withCall, onward, ranFrom}
+use Rattle.run.specs.Run.{ended, withCall, onward, ranFrom}
 use Rattle.run.specs.Left.{Left, reportOf, leaves}
 use Rattle.run.specs.InnerLeft.{Listed, fromOf, callsLeft}
-use Rattle.run.specs.declared.Stop.{Stop}
 use Rattle.run.specs.declared.Stop.the-variants.{Done, By}
 
 -- ---- the run

@@ -1,8 +1,8 @@
 -- The whole run, by what the check of its list answered.
 -- Assumes nothing.
-use mathlib.Core.Path.{_≡_, refl, sym, ap, _∙_}
+use mathlib.Core.Path.{_≡_, refl, sym, ap}
 use mathlib.Core.List.{List, [], _∷_}
-use Prim.Native.Nat.{ℕ, _+_, _-_, _<_}
+use Prim.Native.Nat.{ℕ, _-_}
 use native.Mathlib.Omega.{arith}
 use lib.ListN.{length}
 use Rattle.refusal.specs.Got.{Got, got, refused}
@@ -13,8 +13,8 @@ use Rattle.run.specs.Calls.{calls}
 use Rattle.run.specs.InnerCalls.{callsAnswer}
 use Rattle.run.specs.declared.calls.CallsAnswer.the-variants.{Calls, Refused}
 use Rattle.state.specs.State.{State, lengthsOf}
-use Rattle.run.specs.Run.{ended, ran, ranFrom, ranOf, ranList, stopOf}
-use Rattle.run.specs.Left.{Left, reportOf, leaves, listLeft}
+use Rattle.run.specs.Run.{ended, ran, ranOf, ranList, stopOf}
+use Rattle.run.specs.Left.{reportOf, leaves, listLeft}
 use Rattle.run.specs.InnerLeft.{Listed, fromOf, callsLeft}
 use Rattle.run.specs.declared.Stop.the-variants.{By}
 

@@ -12,7 +12,7 @@ use Rattle.state.specs.declared.Call.{Call}
 use Rattle.state.specs.declared.Asked.{Asked}
 use Rattle.state.specs.declared.Asked.the-variants.{Yes, No}
 use Rattle.state.specs.State.{State, lengthsOf}
-use Rattle.macroblock.specs.Decode.{Outcome, decoded}
+use Rattle.macroblock.specs.Decode.{decoded}
 use Rattle.macroblock.specs.declared.MbAnswer.{MbAnswer}
 use Rattle.macroblock.specs.declared.MbAnswer.the-variants.{Accepted, Refused}
 use Rattle.run.specs.declared.Stop.{Stop}

@@ -3,11 +3,11 @@
 use mathlib.Core.Path.{_≡_, refl, sym, ap, _∙_, subst}
 use mathlib.Core.Bool.{Bool}
 use mathlib.Core.List.{List, [], _∷_, _++_}
-use Prim.Native.Nat.{ℕ, zero, suc, _+_, _≤_, _<_, min}
+use Prim.Native.Nat.{ℕ, _+_, _≤_}
 use native.Mathlib.Omega.{arith}
 use lib.ListN.{length, take, drop, length-append, length-take, length-drop}
 use lib.Seq.{take-add, take-at}
-use Rattle.refusal.specs.Got.{Got, got}
+use Rattle.refusal.specs.Got.{got}
 use Rattle.refusal.proofs.Formats.{got-value, got-count, injective}
 use Rattle.refusal.proofs.Local.{Took, same-before, same-behind}
 use Rattle.state.specs.declared.Call.{Call}
@@ -22,7 +22,7 @@ use Rattle.reading.proofs.Alone.{read-local}
 use Rattle.reading.proofs.Took.{read-took, read-call}
 use Rattle.state.specs.State.{State, contextOf}
 use Rattle.macroblock.specs.Decode.{applied}
-use Rattle.theorems.specs.Trace.{Ready, Path, done, step, callsOf, bytesOf, clipsOf}
+use Rattle.theorems.specs.Trace.{Path, done, step, callsOf, bytesOf, clipsOf}
 use Rattle.theorems.proofs.Traces.{path-range}
 
 -- a path takes no more bits than there are

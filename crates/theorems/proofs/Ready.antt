@@ -1,6 +1,6 @@
 -- What yes to the questions of a call says.
 -- Assumes nothing.
-use mathlib.Core.Path.{_≡_, refl}
+use mathlib.Core.Path.{_≡_}
 use Prim.Native.Nat.{ℕ, _≤_}
 use borrow.Author.Tests.{le-leb}
 use Rattle.state.specs.Questions.{askStart, askQuantiser, askCall, askReplay}

@@ -1,7 +1,7 @@
 -- REPLAY OF A RUN: whatever its start, list of calls, bits and place: replaying a run's transcript from that start is refused exactly when the start's own questions refuse it, with that refusal,
 -- and leaves every sample, vector, mark and the quantiser as the run left them. Nothing is asked about clipping.
 -- Assumes nothing.
-use mathlib.Core.Path.{_≡_, refl, sym, ap, _∙_, subst}
+use mathlib.Core.Path.{_≡_, refl, sym, ap, _∙_}
 use mathlib.Core.Bool.{Bool}
 use mathlib.Core.List.{List, [], _∷_, _++_}
 use Prim.Native.Nat.{ℕ, zero, suc, _+_, _≤_}
@@ -20,16 +20,16 @@ use Rattle.record.specs.Parse.{parseRecord}
 use Rattle.record.proofs.Records.{record-format}
 use Rattle.record.proofs.Lengths.{record-some}
 use Rattle.state.specs.State.{State, lengthsOf}
-use Rattle.macroblock.specs.Decode.{applied, Outcome, kept, outcomeOf, decoded}
+use Rattle.macroblock.specs.Decode.{Outcome, decoded}
 use Rattle.run.specs.Calls.{calls}
 use Rattle.run.specs.Run.{Ran, ended, onward, ranFrom, ran, ranOf, ranList, transcriptOf}
 use Rattle.refusal.proofs.Lists.{until-end, until-turn}
 use Rattle.transcript.specs.Records.{recordsIn, records}
-use Rattle.replay.specs.Replay.{appliedAll, Replay, replayOf, unlessAsked, replayed}
+use Rattle.replay.specs.Replay.{appliedAll, replayOf, unlessAsked, replayed}
 use Rattle.replay.specs.declared.ReplayAnswer.{ReplayAnswer}
 use Rattle.replay.specs.declared.ReplayAnswer.the-variants.{Replayed, Refused}
 use Rattle.theorems.specs.Trace.{Path, done, step, callsOf, bytesOf}
-use Rattle.theorems.proofs.Traces.{Trace, Kind, no, yes, kind}
+use Rattle.theorems.proofs.Traces.{Kind, no, yes, kind}
 use Rattle.theorems.proofs.Paths.{Ranged, none, more, path-ranged}
 use Rattle.theorems.proofs.UniqueReading.{list-trace, transcript-is}
 

@@ -3,11 +3,11 @@
 use mathlib.Core.Path.{_≡_, refl, sym, ap, _∙_, subst}
 use mathlib.Core.Bool.{Bool}
 use mathlib.Core.List.{List, [], _∷_, _++_, append-assoc, append-nil}
-use Prim.Native.Nat.{ℕ, zero, suc, _+_, _-_, _*_, _≤_, _<_}
-use native.Mathlib.Nat.{add-zero, add-assoc}
+use Prim.Native.Nat.{ℕ, _+_, _-_, _≤_}
+use native.Mathlib.Nat.{add-zero}
 use native.Mathlib.Omega.{arith}
 use lib.ListN.{length, take, drop, length-append, length-take}
-use lib.Seq.{sets, sets-eq, length-sets, drop-drop, take-at, take-append-le}
+use lib.Seq.{sets, sets-eq, drop-drop, take-at}
 use Rattle.refusal.specs.Got.{Got, got, refused}
 use Rattle.refusal.specs.declared.Refusal.{Refusal}
 use Rattle.bits.specs.Bits.{bitList}
@@ -19,11 +19,10 @@ use Rattle.record.specs.Range.{RecordRange}
 use Rattle.record.specs.Write.{recordBytes}
 use Rattle.record.proofs.Lengths.{record-length, head-range}
 use Rattle.reading.specs.Read.{readMacroblock}
-use Rattle.reading.specs.Bits.{callOf}
 use Rattle.reading.proofs.Took.{read-range, read-call}
 use Rattle.state.specs.State.{State, contextOf}
-use Rattle.macroblock.specs.Decode.{applied, quantiserAfter, Outcome, kept, outcomeOf, unlessRefused, asked, decoded}
-use Rattle.macroblock.specs.declared.MbAnswer.the-variants.{Accepted, Refused}
+use Rattle.macroblock.specs.Decode.{applied, Outcome, kept, outcomeOf, asked, decoded}
+use Rattle.macroblock.specs.declared.MbAnswer.the-variants.{Refused}
 use Rattle.run.specs.Run.{Ran, ended, withCall, onward, ranFrom}
 use Rattle.run.specs.declared.Stop.{Stop}
 use Rattle.run.specs.declared.Stop.the-variants.{Done, By}

@@ -2,10 +2,10 @@
 -- equal accepted calls and equal consumed bits give equal transcripts; and equal transcripts give equal calls and equal bits where one of the two runs clipped no component.
 -- proofs/Clipped.antt shows that the last premise is needed.
 -- Assumes nothing.
-use mathlib.Core.Path.{_≡_, refl, sym, ap, _∙_, subst}
+use mathlib.Core.Path.{_≡_, sym, ap, _∙_, subst}
 use mathlib.Core.Logic.{_↔_, inl, inr}
-use mathlib.Core.List.{List, [], _∷_, _++_}
-use Prim.Native.Nat.{ℕ, _+_, _-_}
+use mathlib.Core.List.{List, [], _∷_}
+use Prim.Native.Nat.{ℕ, _-_}
 use native.Mathlib.Omega.{arith}
 use lib.ListN.{length, take, drop, length-take}
 use Rattle.bits.specs.Bits.{bitList}
@@ -13,10 +13,10 @@ use Rattle.state.specs.declared.Call.{Call}
 use Rattle.state.specs.State.{State}
 use Rattle.refusal.specs.Got.{Got, got, refused}
 use Rattle.run.specs.Calls.{calls}
-use Rattle.run.specs.Run.{Ran, ended, ran, ranOf, ranList, transcriptOf, consumed}
+use Rattle.run.specs.Run.{Ran, ran, ranOf, ranList, transcriptOf, consumed}
 use Rattle.run.specs.Left.{leaves, listLeft}
 use Rattle.record.specs.Record.{Record}
-use Rattle.theorems.specs.Trace.{Path, callsOf, bytesOf, clipsOf}
+use Rattle.theorems.specs.Trace.{Path, callsOf, bytesOf}
 use Rattle.theorems.specs.Unique.{SameReading, OneUnclipped}
 use Rattle.theorems.proofs.Traces.{Trace, trace, no-call}
 use Rattle.theorems.proofs.Paths.{path-bounded, same-records, same-bits, path-ranged, same-bytes}

@@ -12,7 +12,7 @@ use base.Logic.{ent, sep, ex}
 use base.Fml.{Lft, GName, fsep, fat, fdead, flent, fres}
 use prog.Wp.{Heap}
 use ghost.Atoms.{Atoms, sem}
-use types.Kit.{Given, ‵, _⊛_, later, _$_, _∵_, !, qed, by, move, use1, use3, split, fpick, fsplit, fjoin, fpack, await, updating, now as at-once, frame, done}
+use types.Kit.{Given, ‵, later, _$_, _∵_, !, qed, by, move, use1, use3, fpick, fsplit, fjoin, fpack, await, updating, now as at-once, frame, done}
 use types.SemTy.{Body}
 use denote.Laws.{Is, shows}
 use denote.Memory.{cellAt, mem, partOf}

@@ -1,7 +1,7 @@
 -- Small levels: nothing saturates, and what the passes of `exact` leave are the residuals.
 -- Assumes nothing.
 use mathlib.Core.Path.{_≡_, refl, sym, ap, subst, _∙_}
-use mathlib.Core.Logic.{_⊎_, inl, inr, ⊎-elim}
+use mathlib.Core.Logic.{_⊎_, inl, ⊎-elim}
 use mathlib.Core.Bool.{Bool, true, false, _&&_, false≢true}
 use mathlib.Core.List.{List, map}
 use Prim.Native.Nat.{ℕ, zero, suc, _+_, _*_, _/_, _%_, _<_, _≤_}
@@ -12,11 +12,8 @@ use borrow.Author.Tests.{ltb-true, ltb-false, leb-true}
 use lib.Dec.{leb, ltb, lit≤}
 use lib.IntN.{ℤ, pos, natAbs, _*ℤ_, *ℤ-comm}
 use lib.Signed.{mag}
-use lib.ListN.{length, getD, List·getD-eq-default, List·getD-map}
-use mir.Syntax.{w32}
-use mir.Val.{SFits}
+use lib.ListN.{length, getD, List·getD-eq-default}
 use Rattle.ints.specs.Z.{satZ}
-use Rattle.ints.proofs.Linear.{mag-z, abs-z}
 use Rattle.ints.proofs.Laws.{sat-same}
 use Rattle.transform.specs.Residual.{placed, listed, scaled, sumOf, weighed, rowsOf, columnsOf, rounded, residual}
 use Rattle.transform.specs.InnerArrays.{Short}

@@ -3,7 +3,7 @@ ghost use mathlib.Core.Path.{_≡_};
 ghost use mathlib.Core.Bool.{_&&_};
 ghost use Prim.Native.Nat.{ℕ, _+_, _*_, _/_, _<_, _≤_};
 ghost use lib.Dec.{leb};
-ghost use lib.IntN.{pos, natAbs, _*ℤ_};
+ghost use lib.IntN.{pos, natAbs};
 ghost use lib.ListN.{length, getD};
 ghost use Rattle.transform.specs.Residual.{placed, listed, rounded};
 ghost use Rattle.transform.specs.InnerPasses.{

@@ -1,6 +1,6 @@
 // Residuals added to samples. A residual is held in 16 bits: the compiler then moves a row of samples at once.
 ghost use mathlib.Core.Path.{_≡_};
-ghost use Prim.Native.Nat.{ℕ, _<_, _≤_, _+_};
+ghost use Prim.Native.Nat.{_<_, _≤_, _+_};
 ghost use lib.IntN.{pos, _+ℤ_};
 ghost use lib.ListN.{length};
 ghost use lib.Signed.{mag};

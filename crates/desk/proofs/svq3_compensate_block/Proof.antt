@@ -1,5 +1,5 @@
 -- `svq3_compensate_block`: the compensated block, its answer as a number.
-use mathlib.Core.Path.{_≡_, sym, ap, _∙_}
+use mathlib.Core.Path.{sym, ap, _∙_}
 use mir.Syntax.{w64}
 use mir.Facts.{toZ-ofZ}
 use denote.Ref.{now}

@@ -1,7 +1,4 @@
 -- `cursor_by` meets its contract: by the answer.
-use mathlib.Core.Path.{ap, sym}
-use Rattle.macroblock.specs.Entry.{cursorBy}
-use Rattle.macroblock.specs.declared.MbAnswer.{MbAnswer}
 use borrow.Author.Needs.{needs}
 use Rattle.macroblock.proofs.cursor_by.Statement.{statement}
 use Rattle.macroblock.proofs.cursor_by.Tie as tie

@@ -1,5 +1,5 @@
 -- `run::run_nothing`: the answer to the questions, as the run's end.
-use mathlib.Core.Path.{_≡_, sym, ap, _∙_}
+use mathlib.Core.Path.{sym, ap, _∙_}
 use Rattle.state.specs.declared.Asked.{Asked}
 use Rattle.run.specs.Run.{stopOf}
 use Rattle.run.specs.Left.{reportOf}

@@ -1,7 +1,6 @@
 -- `apply::applied::apply_skip`: the three blocks copied, the cells marked.
 use mathlib.Core.Path.{sym, ap, _∙_}
 use Prim.Native.Nat.{ℕ, _*_}
-use native.Mathlib.Omega.{arith}
 use Rattle.vectors.proofs.Following.{macroblock-cells}
 use Rattle.apply.proofs.Macroblocks.{skipped-luma, skipped-chroma}
 use Rattle.apply.proofs.Fields.{skipped-mv, skipped-marks}

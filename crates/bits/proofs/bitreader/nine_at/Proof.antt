@@ -1,6 +1,5 @@
 -- `bits::bitreader::nine_at` answers the nine bits at its place: they are cut out of two bytes.
-use mathlib.Core.Path.{_≡_, subst, sym, _∙_}
-use Prim.Native.Nat.{ℕ, _+_, _*_, _/_, _%_, _^_, _<_}
+use Prim.Native.Nat.{_+_, _/_, _%_, _<_}
 use native.Mathlib.Omega.{arith}
 use borrow.Author.Needs.{needs}
 use lib.ListN.{getD}

@@ -1,5 +1,4 @@
 -- `bits::code_starts::code_start`: what it computes passes the test at every nine bits.
-use mathlib.Core.List.{[]}
 use Prim.Native.Nat.{ℕ, _+_, _*_, _/_, _%_, _^_, _<_}
 use native.Mathlib.Omega.{arith}
 use borrow.Author.Needs.{needs}

@@ -4,7 +4,6 @@ use mathlib.Core.Logic.{⊎-elim}
 use Rattle.bits.proofs.CodeStep.{codeRest, ends, stops, too-long, cut, turn, more, doubled, value-le}
 use Rattle.bits.specs.Code.{bitValue}
 use Prim.Native.Nat.{_≤_, _<_, _+_, _*_, _^_}
-use borrow.Author.Needs.{needs}
 use native.Mathlib.Omega.{arith}
 use Rattle.bits.proofs.svq3.read_on.Statement.{statement}
 use Rattle.bits.proofs.svq3.read_on.Tie as tie

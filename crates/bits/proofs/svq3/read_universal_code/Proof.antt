@@ -1,9 +1,7 @@
 -- `bits::svq3::read_universal_code` answers `code` at its place: by what the nine bits there say, where two bytes are left.
-use mathlib.Core.Path.{_≡_, _∙_}
-use mathlib.Core.List.{[]}
+use mathlib.Core.Path.{_∙_}
 use native.Mathlib.Omega.{arith}
 use borrow.Author.Needs.{needs}
-use lib.ListN.{drop}
 use Rattle.bits.specs.Bits.{bitList}
 use Rattle.bits.specs.Code.{code}
 use Rattle.bits.proofs.CodeStarts.{at-once, later}

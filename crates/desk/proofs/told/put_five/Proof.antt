@@ -1,5 +1,4 @@
 -- Five stores one after another are `sets`.
-use mathlib.Core.Path.{refl}
 use mathlib.Core.List.{[], _∷_}
 use native.Mathlib.Omega.{arith}
 use borrow.Author.Needs.{needs}

@@ -1,5 +1,5 @@
 -- `told::refused`: a refusal's number is small, so that it can be turned round.
-use mathlib.Core.Path.{_≡_, ap, _∙_}
+use mathlib.Core.Path.{ap, _∙_}
 use Prim.Native.Nat.{ℕ}
 use lib.IntN.{pos, negℤ}
 use native.Mathlib.Omega.{arith}

@@ -1,5 +1,4 @@
 -- `word`: the steps of two's complement.
-use borrow.Author.Needs.{needs}
 use Rattle.ints.proofs.Fits.{signed}
 use Rattle.desk.proofs.Words as words
 use Rattle.desk.proofs.told.word.Statement.{statement}

@@ -1,6 +1,4 @@
 -- `decode_skip`: what yes to the questions tells is what writing and applying ask.
-use mathlib.Core.Path.{_≡_}
-use Prim.Native.Nat.{ℕ}
 use native.Mathlib.Omega.{arith}
 use denote.Ref.{now}
 use Rattle.picture.specs.InnerPicture.{Within}

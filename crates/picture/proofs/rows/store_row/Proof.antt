@@ -1,12 +1,10 @@
 -- `picture::rows::store_row` meets its contract: what the row held is stored, one sample a turn.
-use mathlib.Core.Path.{_≡_, refl, _∙_, ap}
-use mathlib.Core.List.{List}
-use Prim.Native.Nat.{ℕ, _≤_, _<_, _+_, _-_}
+use mathlib.Core.Path.{_≡_, refl, _∙_}
+use Prim.Native.Nat.{_≤_, _-_}
 use native.Mathlib.Nat.{zero-add}
 use native.Mathlib.Numerals.{add-one}
 use native.Mathlib.Omega.{arith}
-use lib.Dec.{lit≤}
-use lib.ListN.{length, getD, replicate, length-set}
+use lib.ListN.{length, replicate, length-set}
 use Rattle.picture.specs.InnerRows.{row, run}
 use Rattle.picture.proofs.Laws.{row-values, row-same}
 use Rattle.picture.proofs.rows.store_row.Statement.{statement}

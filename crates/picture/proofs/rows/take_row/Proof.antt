@@ -1,6 +1,6 @@
 -- `picture::rows::take_row` meets its contract: the invariant has the samples taken so far.
 use mathlib.Core.Path.{_≡_, refl}
-use Prim.Native.Nat.{_≤_, _+_, _-_}
+use Prim.Native.Nat.{_≤_, _-_}
 use native.Mathlib.Nat.{zero-add}
 use native.Mathlib.Numerals.{add-one}
 use native.Mathlib.Omega.{arith}

@@ -1,11 +1,10 @@
 -- `printing::header::read_list`: where the calls that are left end is where all of them do.
-use mathlib.Core.Path.{_≡_, refl, sym, ap, _∙_}
-use Prim.Native.Nat.{ℕ, _-_, _≤_}
+use mathlib.Core.Path.{_≡_, sym, _∙_}
+use Prim.Native.Nat.{_-_, _≤_}
 use native.Mathlib.Omega.{arith}
 use lib.ListN.{drop}
 use Rattle.printing.specs.Header.{callsFrom}
 use Rattle.printing.specs.InnerHeader.{listEnd}
-use Rattle.printing.specs.declared.header.ListEnd.{ListEnd}
 use Rattle.printing.proofs.Headers.{list-none, list-stop, list-on}
 use borrow.Author.Needs.{needs}
 use Rattle.printing.proofs.header.read_list.Statement.{statement}

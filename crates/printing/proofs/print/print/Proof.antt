@@ -1,9 +1,6 @@
 -- `printing::print::print`: an input past 32,768 bytes is cut.
-use mathlib.Core.Path.{_≡_, sym, ap}
-use mathlib.Core.List.{List}
-use Prim.Native.Nat.{ℕ}
+use mathlib.Core.Path.{sym, ap}
 use native.Mathlib.Omega.{arith}
-use lib.ListN.{length, take}
 use lib.Seq.{take-all, length-take-le}
 use Rattle.printing.specs.Print.{printed}
 use Rattle.printing.proofs.Texts.{written-as}

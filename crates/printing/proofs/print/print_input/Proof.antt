@@ -1,6 +1,6 @@
 -- `printing::print::print_input`: the header, the list, and the run of the list over the bits behind it.
-use mathlib.Core.Path.{_≡_, sym, ap, _∙_}
-use Prim.Native.Nat.{ℕ, _≤_}
+use mathlib.Core.Path.{sym, _∙_}
+use Prim.Native.Nat.{_≤_}
 use native.Mathlib.Omega.{arith}
 use lib.ListN.{length}
 use Rattle.printing.proofs.Texts.{written-as, refused-length}

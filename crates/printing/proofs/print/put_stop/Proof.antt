@@ -1,11 +1,4 @@
 -- `printing::print::put_stop`: nothing, or the refusal's line.
-use mathlib.Core.Path.{_≡_, refl, sym, ap}
-use mathlib.Core.List.{List}
-use Prim.Native.Nat.{ℕ, _+_, _≤_}
-use lib.ListN.{length}
-use Rattle.run.specs.declared.Stop.{Stop}
-use Rattle.transcript.specs.Written.{Written}
-use Rattle.printing.specs.Print.{stopLines}
 use Rattle.printing.proofs.Texts.{written-none}
 use borrow.Author.Needs.{needs}
 use Rattle.printing.proofs.print.put_stop.Statement.{statement}

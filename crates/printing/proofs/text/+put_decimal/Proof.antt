@@ -1,8 +1,7 @@
 -- `printing::text::put_decimal`: the number without its last digit, then that digit. The measure is the number.
-use Prim.Native.Nat.{ℕ, _/_, _<_}
+use Prim.Native.Nat.{ℕ, _<_}
 use native.Mathlib.Omega.{arith}
-use lib.ListN.{length, length-set}
-use mathlib.Core.Path.{_∙_}
+use lib.ListN.{length-set}
 use Rattle.printing.proofs.Texts.{one-digit, one-fits, high-fits, low-fits, low-digit}
 use borrow.Fn.Kinds.{In}
 use borrow.Fn.PlainCycle.{Measures, is, falls, and}

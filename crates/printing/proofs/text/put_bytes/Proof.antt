@@ -1,12 +1,11 @@
 -- `printing::text::put_bytes`: the bytes that are left, written at their place, give the whole.
 use mathlib.Core.Path.{_≡_, refl}
 use Prim.Native.Nat.{_+_, _-_, _≤_}
-use native.Mathlib.Nat.{add-zero, add-assoc}
+use native.Mathlib.Nat.{add-zero}
 use native.Mathlib.Omega.{arith}
 use lib.ListN.{length, drop, drop-of-length-le}
 use Rattle.transcript.proofs.Writing.{Still, still-all, still-none}
 use Rattle.printing.proofs.Texts.{byte-fits, byte-more}
-use borrow.Author.Needs.{needs}
 use Rattle.printing.proofs.text.put_bytes.Statement.{statement}
 use Rattle.printing.proofs.text.put_bytes.Tie as tie
 

@@ -1,13 +1,12 @@
 -- `printing::text::put_hex_line`: the digits that are left, and the end of the line, written at their place, give the whole.
-use mathlib.Core.Path.{_≡_, refl, sym, ap, _∙_}
+use mathlib.Core.Path.{refl}
 use mathlib.Core.List.{[], _∷_}
-use Prim.Native.Nat.{_+_, _-_, _≤_, _<_}
+use Prim.Native.Nat.{_-_, _≤_, _<_}
 use native.Mathlib.Omega.{arith}
-use lib.ListN.{length, getD, length-set}
+use lib.ListN.{length, length-set}
 use Rattle.transcript.proofs.Writing.{Still, still-all, still-fits, still-more, still-none}
 use Rattle.printing.specs.Text.{hexLine}
 use Rattle.printing.proofs.Texts.{written-one, hex-from, hex-all, hex-none, hex-fits, hex-more}
-use borrow.Author.Needs.{needs}
 use Rattle.printing.proofs.text.put_hex_line.Statement.{statement}
 use Rattle.printing.proofs.text.put_hex_line.Tie as tie
 

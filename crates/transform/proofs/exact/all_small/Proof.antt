@@ -1,5 +1,4 @@
 -- The DC within ±800,000, and the levels within what the entry leaves of it.
-use mathlib.Core.Path.{_≡_}
 use mathlib.Core.Bool.{_&&_}
 use borrow.Author.Needs.{needs}
 use native.Mathlib.Nat.{div-le-self}

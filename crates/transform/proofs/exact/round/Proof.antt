@@ -1,12 +1,11 @@
 -- The sum and the DC fit 32 bits, and their quotient 16.
 use mathlib.Core.Path.{_≡_, _∙_, ap, sym, subst}
-use borrow.Author.Needs.{needs}
 use lib.IntN.{ℤ, pos, _+ℤ_, _*ℤ_}
 use lib.Signed.{shrZ}
 use mir.Syntax.{w16, w32}
 use mir.Val.{SFits}
 use mir.Facts.{toZ-ofZ}
-use Rattle.ints.proofs.Fits.{signed, read, fits, within-i16, within-mag, shr-floor, Within}
+use Rattle.ints.proofs.Fits.{signed, read, fits, within-mag, shr-floor, Within}
 use Rattle.ints.proofs.Same.{reads}
 use Rattle.transform.specs.Residual.{rounded}
 use Rattle.transform.proofs.Sums.{with-dc, with-rounding, rounded-within}

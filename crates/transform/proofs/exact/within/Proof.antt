@@ -1,5 +1,5 @@
 -- A number is within ±m when it lies neither above m nor below -m.
-use mathlib.Core.Path.{_≡_, refl, _∙_, sym}
+use mathlib.Core.Path.{_≡_, _∙_}
 use mathlib.Core.Bool.{_&&_}
 use borrow.Author.Needs.{needs}
 use Prim.Native.Nat.{_<_}

@@ -1,10 +1,8 @@
 -- The sum fits 16 bits; the lesser of it and 255 is the sample, or 0 where it lies below.
 use mathlib.Core.Path.{_≡_, _∙_, ap}
-use mathlib.Core.Bool.{true, false}
 use borrow.Author.Needs.{needs}
 use native.Mathlib.Omega.{arith}
 use lib.IntN.{ℤ, pos, natAbs, _+ℤ_}
-use lib.Signed.{ltZ}
 use mir.Syntax.{w8, w16}
 use Rattle.ints.specs.Z.{minZ}
 use Rattle.ints.proofs.Fits.{signed, read, back, via, cast-unsigned}

@@ -1,5 +1,5 @@
 -- Without levels each residual is the DC, rounded.
-use mathlib.Core.Path.{_≡_, refl, _∙_, ap, sym, subst}
+use mathlib.Core.Path.{_≡_, _∙_, ap, sym, subst}
 use borrow.Author.Needs.{needs}
 use native.Mathlib.Omega.{arith}
 use Prim.Native.Nat.{ℕ}
@@ -8,7 +8,7 @@ use lib.ListN.{replicate}
 use mir.Syntax.{w16}
 use mir.Facts.{toZ-ofZ}
 use Rattle.ints.proofs.Fits.{read, back}
-use Rattle.transform.specs.Residual.{placed, listed, residual, rounded}
+use Rattle.transform.specs.Residual.{listed, rounded}
 use Rattle.transform.specs.Added.{added}
 use Rattle.transform.specs.InnerArrays.{short, shortened, Short}
 use Rattle.transform.proofs.Laws.{short-listed, added-listed, dc-only}

@@ -4,7 +4,6 @@ use Prim.Native.Nat.{_+_, _-_, _*_, _<_, _≤_}
 use native.Mathlib.Omega.{arith}
 use lib.IntN.{pos}
 use lib.ListN.{length, getD, length-set}
-use borrow.Author.Needs.{needs}
 use Rattle.vectors.specs.Predict.{cellAt}
 use Rattle.vectors.proofs.Moves.{field-read}
 use Rattle.vectors.proofs.Storing.{shown}

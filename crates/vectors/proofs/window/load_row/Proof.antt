@@ -3,7 +3,6 @@ use mathlib.Core.Path.{_∙_}
 use Prim.Native.Nat.{_+_, _-_, _*_, _<_, _≤_}
 use native.Mathlib.Omega.{arith}
 use lib.ListN.{length}
-use borrow.Author.Needs.{needs}
 use Rattle.vectors.proofs.Windows.{whole-place, whole-shows, copied-row}
 use Rattle.vectors.proofs.window.load_row.Statement.{statement}
 use Rattle.vectors.proofs.window.load_row.Tie as tie

@@ -4,7 +4,6 @@ use Prim.Native.Nat.{_+_, _*_}
 use native.Mathlib.Omega.{arith}
 use lib.IntN.{pos}
 use lib.ListN.{getD}
-use borrow.Author.Needs.{needs}
 use borrow.Author.Tests.{eq-eqb, ne-eqb}
 use Rattle.ints.proofs.Fits.{if-yes, if-no}
 use Rattle.vectors.specs.Predict.{vector, cellAt}
