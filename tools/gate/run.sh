@@ -21,7 +21,7 @@ echo "The gate: every crate proved from nothing, every must-fail edit tried, eve
 {
     status=0
     # By default rt makes as many checks at a time as there are processors. More of them leave none idle while the crates are
-    # proved, but an edit then takes a third more of a processor's time: the checks drive each other out of its cache.
+    # proved, but an edit then takes about a fifth more of a processor's time: the checks drive each other out of its cache.
     rt ci 2>&1 || status=$?
     echo "$status" > "$kept/status"
 } | tools/gate/progress.sh "$kept/printed"
