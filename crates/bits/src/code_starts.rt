@@ -3,7 +3,7 @@ ghost use Rattle.std.specs.Prelude.{◌<◌};
 ghost use Rattle.bits.specs.InnerStarts.{Begins};
 
 // Of nine bits, the first a marker.
-#[derive(Drop)]
+#[derive(Clone, Copy)]
 pub struct CodeStart {
     // the number of bits before the first marker 1; 10 where no marker is 1
     pub before: u32,

@@ -8,7 +8,7 @@ use crate::code_starts::code_start;
 use crate::svq3_mv::{SignedAnswer, read_signed_code, signed_of};
 use refusal::Refusal;
 
-#[derive(Drop)]
+#[derive(Clone, Copy)]
 pub enum PairAnswer {
     // the two values, and the place after them
     Pair(i32, i32, usize),

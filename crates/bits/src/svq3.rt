@@ -8,7 +8,7 @@ use crate::bitreader::{bit_at, nine_at};
 use crate::code_starts::code_start;
 use refusal::Refusal;
 
-#[derive(Drop)]
+#[derive(Clone, Copy)]
 pub enum CodeAnswer {
     // a code, and the place after it
     Code(u32, usize),

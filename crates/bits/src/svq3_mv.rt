@@ -7,7 +7,7 @@ ghost use Rattle.bits.specs.InnerSigned.{signed_answer};
 use crate::svq3::{CodeAnswer, read_universal_code};
 use refusal::Refusal;
 
-#[derive(Drop)]
+#[derive(Clone, Copy)]
 pub enum SignedAnswer {
     // a value, and the place after it
     Value(i32, usize),

@@ -4,7 +4,7 @@ ghost use Rattle.bits.specs.Bits.{bit_list};
 ghost use Rattle.bits.specs.InnerWindow.{Shows};
 
 // The `known` highest bits of the word are the bits from a place on.
-#[derive(Drop)]
+#[derive(Clone, Copy)]
 pub struct Window {
     pub word: u64,
     pub known: u32,

@@ -13,7 +13,7 @@ use picture::rows::store_row;
 // How a sample is mixed, whatever the phases: four taps weighed by weights of the sum 12.
 // The taps are two pairs: the sample's first tap with the one `beside` places on, and the two that lie `second` places on from these.
 // With `means` 1 and not 0, the taps of a pair have one weight and stand for their mean.
-#[derive(Drop)]
+#[derive(Clone, Copy)]
 pub struct Mix {
     pub beside: usize,
     pub second: usize,

@@ -15,7 +15,7 @@ use picture::{Block, Size};
 use refusal::Refusal;
 use state::sides_fit;
 
-#[derive(Drop)]
+#[derive(Clone, Copy)]
 pub struct MvComponentSplit {
     pub whole: i64,
     pub phase: u32,
@@ -34,7 +34,7 @@ pub fn split_mv_component(v: i32) -> MvComponentSplit
 }
 
 // How a block reads its taps: the phases, where its first tap lies, and whether all lie inside the plane.
-#[derive(Drop)]
+#[derive(Clone, Copy)]
 pub struct Taps {
     pub px: u32,
     pub py: u32,
@@ -142,7 +142,7 @@ pub fn compensate_into(
     compensate_taps(dst, plane, b, size, t);
 }
 
-#[derive(Drop)]
+#[derive(Clone, Copy)]
 pub enum BlockAnswer {
     // the output holds the block
     Done,

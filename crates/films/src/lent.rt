@@ -5,7 +5,7 @@ use crate::bytes::{short_at, signed_at};
 use crate::slices::{copy, same_at, within};
 
 // How many elements of each part are lent. Those of a reference's chroma planes are told by where they end.
-#[derive(Drop)]
+#[derive(Clone, Copy)]
 pub struct Lent {
     pub y: usize,
     pub cb: usize,

@@ -18,7 +18,7 @@ use crate::start::take_start;
 use libc::STDOUT_FILENO;
 
 // What a record was: each count is 0 or 1.
-#[derive(Drop)]
+#[derive(Clone, Copy)]
 struct Turn {
     accepted: u64,
     refused: u64,

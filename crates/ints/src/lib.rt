@@ -1,3 +1,4 @@
+#![tactic(auto)]
 // Signed helpers. Each contract is an equation in ℤ, the numbers without bounds, by the definitions of specs/Z.antt.
 ghost use Rattle.std.specs.Prelude.{◌≡◌, ◌+ℤ◌, ◌*ℤ◌};
 ghost use Rattle.ints.specs.Z.{sat_z, clamp_z, min_z, max_z, median_z, toward_zero};
@@ -21,7 +22,7 @@ pub fn sat_i32(v: i64) -> i32
 }
 
 // The nearest i32, and whether the exact value left i32.
-#[derive(Drop)]
+#[derive(Clone, Copy)]
 pub struct Held {
     pub value: i32,
     pub over: bool,

@@ -13,13 +13,13 @@ const INTER_CBP_TABLE: [u8; 48] = [
 ];
 
 // The table at a code.
-#[derive(Drop)]
+#[derive(Clone, Copy)]
 pub enum CbpEntry {
     Entry(u8),
     Missing,
 }
 
-#[derive(Drop)]
+#[derive(Clone, Copy)]
 pub enum CbpAnswer {
     // a pattern, 0 to 47, and the place after it
     Pattern(u8, usize),

@@ -16,7 +16,7 @@ use bits::window::{Window, pass, window_at};
 use refusal::Refusal;
 
 // The inter macroblock's two books.
-#[derive(Drop)]
+#[derive(Clone, Copy)]
 pub enum ResidualBook {
     // luma blocks and chroma AC blocks
     NormalScan,
@@ -25,7 +25,7 @@ pub enum ResidualBook {
 }
 
 // What a code says.
-#[derive(Drop)]
+#[derive(Clone, Copy)]
 pub enum LevelRun {
     // the end of the list
     End,
@@ -110,7 +110,7 @@ pub fn resolve_level_run(book: ResidualBook, code: u32) -> LevelRun
 }
 
 // The next code of a list.
-#[derive(Drop)]
+#[derive(Clone, Copy)]
 pub enum Step {
     // a level, its run and the place after the code
     Level(i32, u32, usize),
@@ -119,7 +119,7 @@ pub enum Step {
     Refused(Refusal),
 }
 
-#[derive(Drop)]
+#[derive(Clone, Copy)]
 pub enum ListAnswer {
     // the place after the list
     End(usize),
@@ -158,7 +158,7 @@ fn entry_level(entry: u32) -> i32
 }
 
 // A step, and the window of the bits behind it.
-#[derive(Drop)]
+#[derive(Clone, Copy)]
 pub struct Taken {
     pub step: Step,
     pub window: Window,

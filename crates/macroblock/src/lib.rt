@@ -8,7 +8,7 @@ use refusal::Refusal;
 use state::Cursor;
 
 // What an accepted call leaves: the place after it, the quantiser and the transcript's fill; and how many components it clipped.
-#[derive(Drop)]
+#[derive(Clone, Copy)]
 pub struct MbReport {
     pub place: usize,
     pub quantiser: u32,
@@ -16,7 +16,7 @@ pub struct MbReport {
     pub clipped: u32,
 }
 
-#[derive(Drop)]
+#[derive(Clone, Copy)]
 pub enum MbAnswer {
     Accepted(MbReport),
     Refused(Refusal),

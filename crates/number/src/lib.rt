@@ -1,3 +1,4 @@
+#![tactic(auto)]
 // Document 01's number form: a number is read from bytes and written to them.
 ghost use Rattle.std.specs.Prelude.{◌≡◌, ◌+◌, ◌≤◌, length, drop};
 ghost use Rattle.std.proofs.lemmas.List.Edits.{sets};
@@ -8,14 +9,14 @@ ghost use Rattle.number.specs.InnerSignedNumber.{signed_number_answer};
 
 use refusal::Refusal;
 
-#[derive(Drop)]
+#[derive(Clone, Copy)]
 pub enum NumberAnswer {
     // a number, and the place after it
     Number(u32, usize),
     Refused(Refusal),
 }
 
-#[derive(Drop)]
+#[derive(Clone, Copy)]
 pub enum SignedNumberAnswer {
     // a signed number, and the place after it
     SignedNumber(i32, usize),

@@ -12,7 +12,7 @@ use crate::bytes::{fill, number_at, wide};
 use libc::STDOUT_FILENO;
 
 // The plane of the blocks that follow: the first `size` samples of the buffer.
-#[derive(Drop)]
+#[derive(Clone, Copy)]
 struct Plane {
     width: usize,
     height: usize,
@@ -20,7 +20,7 @@ struct Plane {
 }
 
 // What a record was: each count is 0 or 1.
-#[derive(Drop)]
+#[derive(Clone, Copy)]
 struct Turn {
     plane: Plane,
     bits: u64,

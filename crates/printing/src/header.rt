@@ -10,7 +10,7 @@ use refusal::Refusal;
 use run::calls::{CallAnswer, read_call};
 use state::{Flags, Frame};
 
-#[derive(Drop)]
+#[derive(Clone, Copy)]
 pub struct Header {
     pub grid: Grid,
     pub flags: u32,
@@ -19,14 +19,14 @@ pub struct Header {
     pub count: u32,
 }
 
-#[derive(Drop)]
+#[derive(Clone, Copy)]
 pub enum HeaderAnswer {
     // the numbers, and the place after them
     Header(Header, usize),
     Refused(Refusal),
 }
 
-#[derive(Drop)]
+#[derive(Clone, Copy)]
 pub enum ListEnd {
     // the place after the last call
     At(usize),
@@ -34,7 +34,7 @@ pub enum ListEnd {
 }
 
 // A header number, and the place after it.
-#[derive(Drop)]
+#[derive(Clone, Copy)]
 struct Field(u32, usize);
 
 // A number from `least` to `most`.

@@ -27,21 +27,21 @@ use vectors::svq3_mb::{
 };
 use vectors::window::{load_neighbours, predict_mv, store_partition_in};
 
-#[derive(Drop)]
+#[derive(Clone, Copy)]
 pub enum ReadAnswer {
     // the record's numbers, and the place after it
     Read(Head, usize),
     Refused(Refusal),
 }
 
-#[derive(Drop)]
+#[derive(Clone, Copy)]
 pub enum VectorsAnswer {
     // how many components were clipped so far, and the place after the last difference
     Vectors(u32, usize),
     Refused(Refusal),
 }
 
-#[derive(Drop)]
+#[derive(Clone, Copy)]
 pub enum QuantiserAnswer {
     // the quantiser afterwards, and the place after its delta
     Quantiser(u32, usize),
@@ -55,7 +55,7 @@ fn bit_value(b: bool) -> u32
 }
 
 // What the partitions of a macroblock have in common: its grid, its call and the precision of its vectors.
-#[derive(Drop)]
+#[derive(Clone, Copy)]
 struct Motion {
     grid: Grid,
     call: Call,

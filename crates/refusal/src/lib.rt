@@ -1,10 +1,11 @@
+#![tactic(auto)]
 // Why a call is refused, and readers that answer or refuse. Document 01's number and detail of each refusal are `number_of` and `detail_of` of specs/Refusal.antt.
 
 ghost use Rattle.std.specs.Prelude.{◌≡◌};
 ghost use Rattle.refusal.specs.Refusal.{number_of, detail_of};
 
 // The names are the Rust's where it has one; it says BadBitWidth for LevelPosition too.
-#[derive(Drop)]
+#[derive(Clone, Copy)]
 pub enum Refusal {
     // the grid is not 1 to 4,096 macroblocks both ways
     GridSize,

@@ -5,13 +5,13 @@ pub mod replay;
 use refusal::Refusal;
 
 // The number of records, and the quantiser after them.
-#[derive(Drop)]
+#[derive(Clone, Copy)]
 pub struct ReplayReport {
     pub records: usize,
     pub quantiser: u32,
 }
 
-#[derive(Drop)]
+#[derive(Clone, Copy)]
 pub enum ReplayAnswer {
     Replayed(ReplayReport),
     Refused(Refusal),

@@ -12,7 +12,7 @@ use state::Frame;
 use transcript::parse::{ParseAnswer, PlaceAnswer, parse_motion, parse_place};
 
 // The quantiser after a record, and the place behind it.
-#[derive(Drop)]
+#[derive(Clone, Copy)]
 pub struct Step {
     pub quantiser: u32,
     pub next: usize,

@@ -7,14 +7,14 @@ use number::{NumberAnswer, read_number};
 use refusal::Refusal;
 use state::Call;
 
-#[derive(Drop)]
+#[derive(Clone, Copy)]
 pub enum CallAnswer {
     // a call, and the place after it
     Call(Call, usize),
     Refused(Refusal),
 }
 
-#[derive(Drop)]
+#[derive(Clone, Copy)]
 pub enum CallsAnswer {
     // the number of calls
     Calls(usize),

@@ -11,7 +11,7 @@ use refusal::Refusal;
 use state::{Asked, Frame, Lengths, ask_run};
 
 // Why a run ended.
-#[derive(Drop)]
+#[derive(Clone, Copy)]
 pub enum Stop {
     // every call was made
     Done,
@@ -20,7 +20,7 @@ pub enum Stop {
 }
 
 // What a run did: the accepted calls and the bits that they consumed, as made; then the place, the quantiser and the transcript's fill.
-#[derive(Drop)]
+#[derive(Clone, Copy)]
 pub struct Report {
     pub accepted: usize,
     pub consumed: usize,

@@ -6,7 +6,7 @@ ghost use Rattle.state.specs.Questions.{grid_right, planes_right, state_right, r
 use picture::Grid;
 use refusal::Refusal;
 
-#[derive(Drop)]
+#[derive(Clone, Copy)]
 pub struct Call {
     pub column: u32,
     pub row: u32,
@@ -14,7 +14,7 @@ pub struct Call {
 }
 
 // What the sequence header and the slice header say of reading.
-#[derive(Drop)]
+#[derive(Clone, Copy)]
 pub struct Flags {
     pub halfpel: bool,
     pub thirdpel: bool,
@@ -22,21 +22,21 @@ pub struct Flags {
 }
 
 // What a run has fixed: the grid and the flags.
-#[derive(Drop)]
+#[derive(Clone, Copy)]
 pub struct Frame {
     pub grid: Grid,
     pub flags: Flags,
 }
 
 // The caller's own record of place and quantiser.
-#[derive(Drop)]
+#[derive(Clone, Copy)]
 pub struct Cursor {
     pub place: usize,
     pub quantiser: u32,
 }
 
 // The lengths of the picture's planes, the vectors, the marks and the reference's planes.
-#[derive(Drop)]
+#[derive(Clone, Copy)]
 pub struct Lengths {
     pub y: usize,
     pub cb: usize,
@@ -48,7 +48,7 @@ pub struct Lengths {
     pub rcr: usize,
 }
 
-#[derive(Drop)]
+#[derive(Clone, Copy)]
 pub enum Asked {
     Yes,
     No(Refusal),

@@ -12,13 +12,13 @@ use run::Report;
 use state::{Call, Cursor, Frame};
 
 // What the entry answers, and where it leaves the cursor.
-#[derive(Drop)]
+#[derive(Clone, Copy)]
 pub struct MbMoved {
     pub answer: MbAnswer,
     pub cursor: Cursor,
 }
 
-#[derive(Drop)]
+#[derive(Clone, Copy)]
 pub struct RunMoved {
     pub report: Report,
     pub cursor: Cursor,

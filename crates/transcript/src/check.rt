@@ -12,14 +12,14 @@ use record::Head;
 use refusal::Refusal;
 use state::grid_right;
 
-#[derive(Drop)]
+#[derive(Clone, Copy)]
 pub enum RecordAnswer {
     // the place behind a record
     Record(usize),
     Refused(Refusal),
 }
 
-#[derive(Drop)]
+#[derive(Clone, Copy)]
 pub enum CheckAnswer {
     // the number of records
     Records(usize),

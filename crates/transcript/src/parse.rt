@@ -21,7 +21,7 @@ use refusal::Refusal;
 use vectors::svq3_mb::num_motion_vectors;
 
 // What stands at the start of a record: its place and mode. The last number of an answer is the place behind the mode.
-#[derive(Drop)]
+#[derive(Clone, Copy)]
 pub enum PlaceAnswer {
     // column and row of a skip, which has nothing more
     Skip(u32, u32, usize),
@@ -30,7 +30,7 @@ pub enum PlaceAnswer {
     Refused(Refusal),
 }
 
-#[derive(Drop)]
+#[derive(Clone, Copy)]
 pub enum ParseAnswer {
     // the numbers of a record, and the place after it
     Parsed(Head, usize),

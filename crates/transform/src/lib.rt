@@ -1,3 +1,4 @@
+#![tactic(auto)]
 // Levels scaled, transformed and added to samples.
 pub mod exact;
 pub mod four;

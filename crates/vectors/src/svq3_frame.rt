@@ -14,21 +14,21 @@ use ints::{clamp_i64, median3, sat_add, sat_mul};
 use picture::Grid;
 
 // A component of a stored vector or of its predictor.
-#[derive(Drop)]
+#[derive(Clone, Copy)]
 pub struct Sixths(pub i32);
 
 // A component in the precision's unit: a difference, or a predictor that was converted.
-#[derive(Drop)]
+#[derive(Clone, Copy)]
 pub struct Units(pub i32);
 
-#[derive(Drop)]
+#[derive(Clone, Copy)]
 pub struct Vector {
     pub x: Sixths,
     pub y: Sixths,
 }
 
 // A neighbour: no vector where it lies off the picture or is marked 0.
-#[derive(Drop)]
+#[derive(Clone, Copy)]
 pub enum Near {
     Missing,
     Here(Vector),
@@ -138,7 +138,7 @@ pub fn stored_scale(precision: Svq3MvPrecision) -> i32
 }
 
 // A component in sixths, and whether a sum or a product went beyond i32 on the way.
-#[derive(Drop)]
+#[derive(Clone, Copy)]
 pub struct Moved {
     pub value: Sixths,
     pub clipped: bool,

@@ -66,14 +66,14 @@ pub fn partition_offset_y(mode: u32, i: usize) -> usize
     i * w / 16 * h
 }
 
-#[derive(Drop)]
+#[derive(Clone, Copy)]
 pub enum Svq3MvPrecision {
     Fullpel,
     Halfpel,
     Thirdpel,
 }
 
-#[derive(Drop)]
+#[derive(Clone, Copy)]
 pub enum PrecisionAnswer {
     // a precision, and the place after its bits
     Precision(Svq3MvPrecision, usize),

@@ -1,0 +1,32 @@
+-- `bits::code_starts::code_start`: what it computes passes the test at every nine bits.
+use Prim.Native.Nat.{ℕ, ◌+◌, ◌*◌, ◌/◌, ◌%◌, ◌^◌, ◌<◌}
+use native.Mathlib.Omega.{arith}
+use borrow.Author.Rules.{rules}
+use lib.Bits.{bit_and, bit_or, mask_lt}
+use lib.Count.{count_leading_zeros}
+use Rattle.bits.specs.InnerStarts.{Begins}
+use Rattle.bits.proofs.CodeStarts.{computed}
+use Rattle.bits.proofs.code_starts.code_start.Goals as goal
+
+-- the code's terms
+abbrev before : ℕ → ℕ
+before w = count_leading_zeros 32 (bit_and w 0x155 * 2 ^ 23 % 2 ^ 32 + 0x200000)
+
+abbrev pairs : ℕ → ℕ
+pairs w = bit_and (bit_or (bit_and w 0xaa / 2 ^ 1) (bit_and w 0xaa / 2 ^ 1 / 2 ^ 1)) 0x33
+
+abbrev head : ℕ → ℕ
+head w = (16 + bit_and (bit_or (pairs w) (pairs w / 2 ^ 2)) 0xf) * 2 ^ (before w / 2) % 2 ^ 32 / 2 ^ 4
+
+says : (w : ℕ) → w < 512 → Begins w (before w) (head w)
+unfolding count_leading_zeros
+says w h = computed before head tt w h
+
+pub overflow_add-result : goal.overflow_add-result
+overflow_add-result c = let w = c.args.nine in omega (arith, mask_lt (bit_or (pairs w) (pairs w / 2 ^ 2)) 4)
+
+pub overflow_shl-result : goal.overflow_shl-result
+overflow_shl-result c = omega (arith, (says c.args.nine c.requires).within)
+
+pub returns : goal.returns
+returns c = says c.args.nine c.requires

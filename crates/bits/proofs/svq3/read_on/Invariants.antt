@@ -1,0 +1,14 @@
+-- `bits::svq3::read_on` answers `code_from` at its place. The invariant: reading on from the marker at p gives the answer, and m has room for the data bits that may come.
+use mathlib.Core.Path.{◌≡◌, refl, sym, ◌∙◌}
+use mathlib.Core.Logic.{⊎_elim}
+use Rattle.bits.proofs.CodeStep.{code_rest, ends, stops, too_long, cut, turn, more, doubled, value-le}
+use Rattle.bits.specs.Code.{bit_value}
+use Prim.Native.Nat.{◌≤◌, ◌<◌, ◌+◌, ◌*◌, ◌^◌}
+use native.Mathlib.Omega.{arith}
+use Rattle.bits.proofs.svq3.read_on.Given as goal
+
+abbrev pub invariant-loop-p : goal.invariant-loop-p
+invariant-loop-p l = (code_rest l.bits l.p l.room l.m ≡ code_rest l.bits l.at l.spare l.head) × ((l.m + 1) * 2 ^ l.room ≤ 2 ^ 32) × (0 < l.m)
+
+abbrev pub decreases-loop-p : goal.decreases-loop-p
+decreases-loop-p l = l.room

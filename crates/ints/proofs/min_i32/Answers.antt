@@ -1,0 +1,12 @@
+-- The test of the code is that of `min_z`.
+use Rattle.ints.specs.Z.{min_z}
+use Rattle.ints.proofs.Fits.{branches}
+use Rattle.ints.proofs.min_i32.Goals as goal
+
+pub returns-then-a-b : goal.returns-then-a-b
+unfolding min_z
+returns-then-a-b c = search branches
+
+pub returns-else-a-b : goal.returns-else-a-b
+unfolding min_z
+returns-else-a-b c = search branches

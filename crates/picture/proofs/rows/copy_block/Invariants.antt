@@ -1,0 +1,16 @@
+-- `picture::rows::copy_block` meets its contract. Assumes nothing.
+use mathlib.Core.Path.{◌≡◌, refl, ◌∙◌}
+use Prim.Native.Nat.{◌≤◌, ◌-◌}
+use native.Mathlib.Omega.{arith}
+use native.Mathlib.Numerals.{add-one}
+use lib.ListN.{length}
+use Rattle.picture.specs.Picture.{seen, copied}
+use Rattle.picture.specs.InnerRows.{rows, run}
+use Rattle.picture.proofs.Laws.{Row, inside-row, rows-painted}
+use Rattle.picture.proofs.rows.copy_block.Given as goal
+
+abbrev pub invariant-loop-r : goal.invariant-loop-r
+invariant-loop-r l = (l.r ≤ l.b.h) × (length l.plane ≡ length l.initial.plane) × (l.plane ≡ rows l.initial.plane l.b.stride l.b.x l.b.y (seen l.other l.b.stride l.b.x l.b.y) l.b.w l.r)
+
+abbrev pub decreases-loop-r : goal.decreases-loop-r
+decreases-loop-r l = l.b.h - l.r

@@ -1,0 +1,16 @@
+-- `picture::rows::store_row` meets its contract: what the row held is stored, one sample a turn.
+use mathlib.Core.Path.{◌≡◌, refl, ◌∙◌}
+use Prim.Native.Nat.{◌≤◌, ◌-◌}
+use native.Mathlib.Nat.{zero-add}
+use native.Mathlib.Numerals.{add-one}
+use native.Mathlib.Omega.{arith}
+use lib.ListN.{length, replicate, length-set}
+use Rattle.picture.specs.InnerRows.{row, run}
+use Rattle.picture.proofs.Laws.{row-values, row_same}
+use Rattle.picture.proofs.rows.store_row.Given as goal
+
+abbrev pub invariant-loop-c : goal.invariant-loop-c
+invariant-loop-c l = (l.c ≤ l.n) × (length l.plane ≡ length l.initial.plane) × (l.plane ≡ row l.initial.plane l.at (run l.t 0) l.c)
+
+abbrev pub decreases-loop-c : goal.decreases-loop-c
+decreases-loop-c l = l.n - l.c
