@@ -78,7 +78,7 @@ loop-p-preserved c =
     let l = c.loop-p in
     let a = c.args in
     let d = c.bit_at-in-loop-p.result in
-    let m' : c.if-bit_at-2.m ≡ 2 * l.m + bit_value d = ⊎_elim (λ w. rw w.0.taken w.1) (λ w. rw w.0.left (omega arith)) c.if-bit_at-2.branch in (
+    let m' : c.if-bit_at-2.m ≡ 2 * l.m + bit_value d = elim c.if-bit_at-2.branch [ goal.then-bit_at-2 w ↦ rw w.if-bit_at-2.true w.m-is | goal.else-bit_at-2 w ↦ rw w.if-bit_at-2.false (omega arith) ] in (
       rw m' (sym (turn a.bits.now l.p l.room l.m d (omega arith) (sym c.if-bit_at.false ∙ c.bit_at.ensures) (omega arith) (omega arith) c.bit_at-in-loop-p.ensures) ∙ l.invariant.0),
       rw m' (more l.room l.m (bit_value d) (omega arith) (value-le d) l.invariant.1),
       omega arith,
