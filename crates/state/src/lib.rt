@@ -1,3 +1,4 @@
+#![tactic(auto)]
 // Grid, flags, call, cursor and lengths, and the questions before a macroblock: on numbers alone, the lengths of the slices among them.
 
 ghost use Rattle.std.specs.Prelude.{◌≡◌, true, ◌≤◌};
