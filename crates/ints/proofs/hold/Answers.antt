@@ -4,7 +4,6 @@ use mir.Facts.{to_z-of_z}
 use Rattle.ints.specs.Z.{sat_z, over_z}
 use Rattle.ints.specs.InnerHeld.{held_z}
 use Rattle.ints.proofs.Fits.{back, via}
-use borrow.Author.Rules.{rules}
 use Rattle.ints.proofs.hold.Goals as goal
 
 pub returns : goal.returns

@@ -1,5 +1,4 @@
 -- The three calls are the definition's own three steps.
-use borrow.Author.Rules.{rules}
 use Rattle.ints.specs.Z.{median_z}
 use Rattle.ints.proofs.Same.{reads}
 use Rattle.ints.proofs.median3.Goals as goal

@@ -2,7 +2,6 @@
 use Rattle.ints.specs.InnerHeld.{held_z}
 use Rattle.ints.proofs.Fits.{signed, via}
 use Rattle.ints.proofs.Same.{reads}
-use borrow.Author.Rules.{rules}
 use Rattle.ints.proofs.sat_add.Goals as goal
 
 pub returns : goal.returns

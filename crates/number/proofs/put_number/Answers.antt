@@ -1,11 +1,11 @@
 -- `number::put_number` writes `number v`. The loop holds that the groups of what is left, written from its place on, give the whole.
 use mathlib.Core.Path.{◌≡◌, refl, sym, ap, ◌∙◌}
-use Prim.Native.Nat.{ℕ, ◌≤◌, ◌<◌, ◌+◌, ◌-◌, ◌*◌, ◌^◌, ◌%◌}
+use Prim.Native.Nat.{ℕ, ◌+◌, ◌-◌, ◌%◌}
 use native.Mathlib.Omega.{arith}
 use native.Mathlib.Numerals.{add-one}
 use lib.ListN.{length, length-set}
 use lib.Seq.{sets}
-use Rattle.number.specs.Number.{number, groups}
+use Rattle.number.specs.Number.{number}
 use Rattle.number.proofs.Numbers.{one-group, writes-on, some_bytes}
 use Rattle.number.proofs.put_number.Goals as goal
 

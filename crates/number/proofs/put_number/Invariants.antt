@@ -1,12 +1,9 @@
 -- `number::put_number` writes `number v`. The loop holds that the groups of what is left, written from its place on, give the whole.
-use mathlib.Core.Path.{◌≡◌, refl, sym, ap, ◌∙◌}
-use Prim.Native.Nat.{ℕ, ◌≤◌, ◌<◌, ◌+◌, ◌-◌, ◌*◌, ◌^◌, ◌%◌}
-use native.Mathlib.Omega.{arith}
-use native.Mathlib.Numerals.{add-one}
-use lib.ListN.{length, length-set}
+use mathlib.Core.Path.{◌≡◌}
+use Prim.Native.Nat.{◌≤◌, ◌<◌, ◌+◌, ◌-◌, ◌*◌, ◌^◌}
+use lib.ListN.{length}
 use lib.Seq.{sets}
 use Rattle.number.specs.Number.{number, groups}
-use Rattle.number.proofs.Numbers.{one-group, writes-on, some_bytes}
 use Rattle.number.proofs.put_number.Given as goal
 
 abbrev pub invariant-loop-rest : goal.invariant-loop-rest

@@ -1,13 +1,10 @@
 -- `number::read_groups` answers `read_number`. The loop holds that the groups so far, joined to the number behind them, give the answer.
 use mathlib.Core.Path.{◌≡◌, sym, ◌∙◌}
-use Prim.Native.Nat.{suc, ◌≤◌, ◌<◌, ◌+◌, ◌-◌, ◌^◌}
+use Prim.Native.Nat.{suc, ◌+◌, ◌-◌}
 use native.Mathlib.Omega.{arith}
-use borrow.Author.Rules.{rules}
-use lib.ListN.{length, drop, get_or}
+use lib.ListN.{drop, get_or}
 use lib.Dec.{lit<}
-use Rattle.number.specs.Number.{read_number}
-use Rattle.number.specs.InnerNumber.{number_answer}
-use Rattle.number.proofs.Reading.{joined, start, ends, last-group, large, not-shortest, fine, goes_on, sixth, group-most, group-room, next-value}
+use Rattle.number.proofs.Reading.{start, ends, last-group, large, not-shortest, fine, goes_on, sixth, group-most, group-room, next-value}
 use Rattle.number.proofs.read_groups.Goals as goal
 
 pub loop-p-init : goal.loop-p-init
@@ -30,14 +27,14 @@ wide-b-requires c = tt
 pub overflow_mul-v : goal.overflow_mul-v
 overflow_mul-v c =
     let l = c.loop-p in
-    let k = c.shared_slice_known-in-loop-p-1.given l.p in
+    let k = c.type_inv.s l.p in
     let m = group-most _ l.unit c.wide-b.result l.invariant.4 l.invariant.2 (omega arith) in
     omega arith
 
 pub overflow_add-v : goal.overflow_add-v
 overflow_add-v c =
     let l = c.loop-p in
-    let k = c.shared_slice_known-in-loop-p-1.given l.p in
+    let k = c.type_inv.s l.p in
     let m = group-most _ l.unit c.wide-b.result l.invariant.4 l.invariant.2 (omega arith) in
     omega arith
 
@@ -69,21 +66,21 @@ pub returns-then-unit-ge268435456 : goal.returns-then-unit-ge268435456
 returns-then-unit-ge268435456 c =
     let l = c.loop-p in
     let x = c.args in
-    let k = c.shared_slice_known-in-loop-p-1.given l.p in
+    let k = c.type_inv.s l.p in
     let w = c.wide-b.ensures in
     sym (sixth x.s.now x.at l.p l.a l.unit (omega arith) (omega arith) (omega arith) l.invariant.3 c.if-unit-ge268435456.true) ∙ l.invariant.0
 
 pub overflow_mul-a : goal.overflow_mul-a
 overflow_mul-a c =
     let l = c.loop-p in
-    let k = c.shared_slice_known-in-loop-p-1.given l.p in
+    let k = c.type_inv.s l.p in
     let m = next-value l.a l.unit (c.wide-b.result - 128) l.invariant.1 (omega arith) in
     omega arith
 
 pub overflow_add-a : goal.overflow_add-a
 overflow_add-a c =
     let l = c.loop-p in
-    let k = c.shared_slice_known-in-loop-p-1.given l.p in
+    let k = c.type_inv.s l.p in
     let m = next-value l.a l.unit (c.wide-b.result - 128) l.invariant.1 (omega arith) in
     omega arith
 
@@ -100,7 +97,7 @@ pub loop-p-preserved : goal.loop-p-preserved
 loop-p-preserved c =
     let l = c.loop-p in
     let x = c.args in
-    let k = c.shared_slice_known-in-loop-p-1.given l.p in
+    let k = c.type_inv.s l.p in
     let w = c.wide-b.ensures in
     let g = group-room _ l.unit l.invariant.2 c.if-unit-ge268435456.false in
     let n : l.p + 1 - x.at ≡ suc (l.p - x.at) = omega arith in (

@@ -1,13 +1,10 @@
 -- `number::read_groups` answers `read_number`. The loop holds that the groups so far, joined to the number behind them, give the answer.
-use mathlib.Core.Path.{◌≡◌, sym, ◌∙◌}
-use Prim.Native.Nat.{suc, ◌≤◌, ◌<◌, ◌+◌, ◌-◌, ◌^◌}
-use native.Mathlib.Omega.{arith}
-use borrow.Author.Rules.{rules}
-use lib.ListN.{length, drop, get_or}
-use lib.Dec.{lit<}
+use mathlib.Core.Path.{◌≡◌}
+use Prim.Native.Nat.{◌≤◌, ◌<◌, ◌-◌, ◌^◌}
+use lib.ListN.{length, drop}
 use Rattle.number.specs.Number.{read_number}
 use Rattle.number.specs.InnerNumber.{number_answer}
-use Rattle.number.proofs.Reading.{joined, start, ends, last-group, large, not-shortest, fine, goes_on, sixth, group-most, group-room, next-value}
+use Rattle.number.proofs.Reading.{joined}
 use Rattle.number.proofs.read_groups.Given as goal
 
 abbrev pub invariant-loop-p : goal.invariant-loop-p

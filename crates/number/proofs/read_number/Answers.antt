@@ -1,7 +1,6 @@
 -- `number::read_number` answers `read_number`: one group at once, more by `read_groups`.
 use mathlib.Core.Path.{sym}
 use native.Mathlib.Omega.{arith}
-use borrow.Author.Rules.{rules}
 use Rattle.number.proofs.Reading.{one-group}
 use Rattle.number.proofs.read_number.Goals as goal
 

@@ -3,7 +3,6 @@ use mathlib.Core.Path.{sym, ap, ◌∙◌}
 use lib.IntN.{ℤ}
 use mir.Syntax.{w32}
 use mir.Facts.{to_z-of_z}
-use borrow.Author.Rules.{rules}
 use Rattle.number.specs.declared.SignedNumberAnswer.TheVariants.{SignedNumber}
 use Rattle.number.proofs.Answers.{signed-value, signed-refusal}
 use Rattle.number.proofs.read_signed_number.Goals as goal

@@ -6,7 +6,6 @@ use Rattle.number.specs.SignedNumber.{received}
 use mir.Syntax.{w32}
 use mir.Facts.{to_z_pos}
 use Rattle.number.proofs.I32.{half-fits, under}
-use borrow.Author.Rules.{rules}
 use Rattle.number.proofs.received_of.Goals as goal
 
 pub overflow_sub-result : goal.overflow_sub-result

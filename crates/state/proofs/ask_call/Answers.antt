@@ -1,7 +1,6 @@
 -- `state::ask_call` meets its contract: 1 to 4, then the others.
 use mathlib.Core.Path.{sym, ◌∙◌}
 use Rattle.state.proofs.Laws.{call-is}
-use borrow.Author.Rules.{rules}
 use Rattle.state.proofs.ask_call.Goals as goal
 
 -- gone: enum-told

@@ -3,7 +3,6 @@ use Prim.Native.Nat.{◌*◌}
 use native.Mathlib.Omega.{arith}
 use borrow.Author.Tests.{lt-ltb, le-ltb, le-leb, lt-leb}
 use Rattle.state.specs.Questions.{place_in, ask_place}
-use borrow.Author.Rules.{rules}
 use Rattle.state.proofs.ask_place.Goals as goal
 
 -- src/lib.rt:89:13

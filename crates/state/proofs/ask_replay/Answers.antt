@@ -3,7 +3,6 @@ use mathlib.Core.Path.{sym, ◌∙◌}
 use borrow.Author.Tests.{le-leb, lt-leb}
 use Rattle.state.specs.Questions.{ask_quantiser}
 use Rattle.state.proofs.Laws.{replay-is}
-use borrow.Author.Rules.{rules}
 use Rattle.state.proofs.ask_replay.Goals as goal
 
 -- gone: enum-told

@@ -4,7 +4,6 @@ use native.Mathlib.Omega.{arith}
 use borrow.Author.Tests.{le-leb, lt-leb}
 use Rattle.state.specs.Questions.{ask_rest, ask_quantiser}
 use Rattle.state.proofs.Laws.{rest-is}
-use borrow.Author.Rules.{rules}
 use Rattle.state.proofs.ask_rest.Goals as goal
 
 -- gone: enum-told

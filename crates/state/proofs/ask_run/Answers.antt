@@ -1,7 +1,6 @@
 -- `state::ask_run` meets its contract: 1 to 4 and 6, then 7.
 use mathlib.Core.Path.{sym, ◌∙◌}
 use Rattle.state.proofs.Laws.{run_is}
-use borrow.Author.Rules.{rules}
 use Rattle.state.proofs.ask_run.Goals as goal
 
 -- gone: enum-told

@@ -1,7 +1,6 @@
 -- `state::ask_start` meets its contract: by the answers, in order.
 use mathlib.Core.Path.{sym, ◌∙◌}
 use Rattle.state.specs.Questions.{ask_start}
-use borrow.Author.Rules.{rules}
 use Rattle.state.proofs.ask_start.Goals as goal
 
 -- src/lib.rt:69:12

@@ -2,7 +2,6 @@
 use native.Mathlib.Omega.{arith}
 use Rattle.state.specs.Questions.{state_right}
 use Rattle.state.proofs.Laws.{grid-size}
-use borrow.Author.Rules.{rules}
 use Rattle.state.proofs.state_right.Goals as goal
 
 -- src/lib.rt:48:13

@@ -1,5 +1,4 @@
 -- `bits::bitreader::bit_at` answers the bit at its place.
-use borrow.Author.Rules.{rules}
 use mathlib.Core.Path.{sym}
 use Rattle.bits.proofs.BitAt.{bit_at}
 use Rattle.bits.proofs.bitreader.bit_at.Goals as goal

@@ -1,7 +1,6 @@
 -- `bits::bitreader::nine_at` answers the nine bits at its place: they are cut out of two bytes.
 use Prim.Native.Nat.{◌+◌, ◌/◌, ◌%◌, ◌<◌}
 use native.Mathlib.Omega.{arith}
-use borrow.Author.Rules.{rules}
 use lib.ListN.{get_or}
 use Rattle.bits.proofs.BitAt.{shifted, nine-at}
 use Rattle.bits.proofs.bitreader.nine_at.Goals as goal

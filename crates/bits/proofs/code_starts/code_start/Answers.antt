@@ -1,7 +1,6 @@
 -- `bits::code_starts::code_start`: what it computes passes the test at every nine bits.
 use Prim.Native.Nat.{ℕ, ◌+◌, ◌*◌, ◌/◌, ◌%◌, ◌^◌, ◌<◌}
 use native.Mathlib.Omega.{arith}
-use borrow.Author.Rules.{rules}
 use lib.Bits.{bit_and, bit_or, mask_lt}
 use lib.Count.{count_leading_zeros}
 use Rattle.bits.specs.InnerStarts.{Begins}

@@ -11,7 +11,7 @@ use Rattle.bits.proofs.pair.read_apart.Goals as goal
 pub returns-in-Value-read_signed_code : goal.returns-in-Value-read_signed_code
 returns-in-Value-read_signed_code c =
     let a = c.args in
-            let ry = to_z-of_z {w = w32} {z = c.in-Value.y} (search rules) in
+    let ry = to_z-of_z {w = w32} {z = c.in-Value.y} (search rules) in
     let rx = to_z-of_z {w = w32} {z = c.in-Value-read_signed_code.x} (search rules) in
     (λ i. Pair (ry i) (rx i) c.in-Value-read_signed_code.next) ∙ pair_is (bit_list a.bits.now) a.at _ _ _ _ (sym c.in-Value.is ∙ c.read_signed_code.ensures) (sym c.in-Value-read_signed_code.is ∙ c.read_signed_code-in-Value.ensures)
 

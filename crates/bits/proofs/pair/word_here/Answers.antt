@@ -1,5 +1,4 @@
 -- `bits::pair::word_here`: the bits before the place are shifted out.
-use borrow.Author.Rules.{rules}
 use Rattle.bits.specs.Bits.{bit_list}
 use Rattle.bits.proofs.Pairs.{here-shows}
 use Rattle.bits.proofs.pair.word_here.Goals as goal

@@ -1,9 +1,8 @@
 -- `bits::svq3::read_on` answers `code_from` at its place. The invariant: reading on from the marker at p gives the answer, and m has room for the data bits that may come.
 use mathlib.Core.Path.{◌≡◌, refl, sym, ◌∙◌}
-use mathlib.Core.Logic.{⊎_elim}
-use Rattle.bits.proofs.CodeStep.{code_rest, ends, stops, too_long, cut, turn, more, doubled, value-le}
+use Rattle.bits.proofs.CodeStep.{ends, stops, too_long, cut, turn, more, doubled, value-le}
 use Rattle.bits.specs.Code.{bit_value}
-use Prim.Native.Nat.{◌≤◌, ◌<◌, ◌+◌, ◌*◌, ◌^◌}
+use Prim.Native.Nat.{◌+◌, ◌*◌}
 use native.Mathlib.Omega.{arith}
 use Rattle.bits.proofs.svq3.read_on.Goals as goal
 

@@ -1,10 +1,7 @@
 -- `bits::svq3::read_on` answers `code_from` at its place. The invariant: reading on from the marker at p gives the answer, and m has room for the data bits that may come.
-use mathlib.Core.Path.{◌≡◌, refl, sym, ◌∙◌}
-use mathlib.Core.Logic.{⊎_elim}
-use Rattle.bits.proofs.CodeStep.{code_rest, ends, stops, too_long, cut, turn, more, doubled, value-le}
-use Rattle.bits.specs.Code.{bit_value}
+use mathlib.Core.Path.{◌≡◌}
+use Rattle.bits.proofs.CodeStep.{code_rest}
 use Prim.Native.Nat.{◌≤◌, ◌<◌, ◌+◌, ◌*◌, ◌^◌}
-use native.Mathlib.Omega.{arith}
 use Rattle.bits.proofs.svq3.read_on.Given as goal
 
 abbrev pub invariant-loop-p : goal.invariant-loop-p

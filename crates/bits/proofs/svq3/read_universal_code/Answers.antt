@@ -1,7 +1,6 @@
 -- `bits::svq3::read_universal_code` answers `code` at its place: by what the nine bits there say, where two bytes are left.
 use mathlib.Core.Path.{◌∙◌}
 use native.Mathlib.Omega.{arith}
-use borrow.Author.Rules.{rules}
 use Rattle.bits.specs.Bits.{bit_list}
 use Rattle.bits.specs.Code.{code}
 use Rattle.bits.proofs.CodeStarts.{at_once, later}

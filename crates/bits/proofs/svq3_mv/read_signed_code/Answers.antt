@@ -5,7 +5,6 @@ use mir.Syntax.{w32}
 use mir.Facts.{to_z-of_z}
 use Rattle.bits.specs.declared.svq3_mv.SignedAnswer.TheVariants.{Value}
 use Rattle.bits.proofs.Answers.{code-range, signed-value, signed-refusal}
-use borrow.Author.Rules.{rules}
 use Rattle.bits.proofs.svq3_mv.read_signed_code.Goals as goal
 
 -- gone: enum-known-k

@@ -5,7 +5,6 @@ use native.Mathlib.Omega.{arith}
 use mir.Syntax.{w32}
 use mir.Facts.{to_z_pos}
 use Rattle.bits.proofs.SignedCode.{when-odd, when-even, neg-fits, neg_is}
-use borrow.Author.Rules.{rules}
 use Rattle.bits.proofs.svq3_mv.signed_of.Goals as goal
 
 -- src/svq3_mv.rt:23:40

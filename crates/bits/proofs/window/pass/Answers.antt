@@ -1,5 +1,4 @@
 -- `bits::window::pass`: a shift to the left drops the highest bits.
-use borrow.Author.Rules.{rules}
 use Rattle.bits.proofs.Windows.{passed}
 use Rattle.bits.proofs.window.pass.Goals as goal
 

@@ -1,5 +1,4 @@
 -- `bits::window::window_at`: the window of eight bytes, or an empty one.
-use borrow.Author.Rules.{rules}
 use Rattle.bits.specs.Bits.{bit_list}
 use Rattle.bits.proofs.Windows.{shows-none, filled}
 use Rattle.bits.proofs.window.window_at.Goals as goal

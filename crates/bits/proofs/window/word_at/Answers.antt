@@ -1,11 +1,10 @@
 -- `bits::window::word_at`: its eight bytes, one by one, are what the word shows.
-use borrow.Author.Rules.{rules}
 use Rattle.bits.proofs.Windows.{word-shows}
 use Rattle.bits.proofs.window.word_at.Goals as goal
 
 pub returns : goal.returns
 returns c =
-        let b1 = c.wide in
+    let b1 = c.wide in
     let b2 = c.wide-2 in
     let b3 = c.wide-3 in
     let b4 = c.wide-4 in

@@ -1,12 +1,9 @@
 -- `picture::rows::copy_block` meets its contract. Assumes nothing.
-use mathlib.Core.Path.{◌≡◌, refl, ◌∙◌}
+use mathlib.Core.Path.{◌≡◌}
 use Prim.Native.Nat.{◌≤◌, ◌-◌}
-use native.Mathlib.Omega.{arith}
-use native.Mathlib.Numerals.{add-one}
 use lib.ListN.{length}
-use Rattle.picture.specs.Picture.{seen, copied}
-use Rattle.picture.specs.InnerRows.{rows, run}
-use Rattle.picture.proofs.Laws.{Row, inside-row, rows-painted}
+use Rattle.picture.specs.Picture.{seen}
+use Rattle.picture.specs.InnerRows.{rows}
 use Rattle.picture.proofs.rows.copy_block.Given as goal
 
 abbrev pub invariant-loop-r : goal.invariant-loop-r

@@ -1,10 +1,9 @@
 -- `picture::rows::store_row` meets its contract: what the row held is stored, one sample a turn.
 use mathlib.Core.Path.{◌≡◌, refl, ◌∙◌}
-use Prim.Native.Nat.{◌≤◌, ◌-◌}
 use native.Mathlib.Nat.{zero-add}
 use native.Mathlib.Numerals.{add-one}
 use native.Mathlib.Omega.{arith}
-use lib.ListN.{length, replicate, length-set}
+use lib.ListN.{replicate, length-set}
 use Rattle.picture.specs.InnerRows.{row, run}
 use Rattle.picture.proofs.Laws.{row-values, row_same}
 use Rattle.picture.proofs.rows.store_row.Goals as goal

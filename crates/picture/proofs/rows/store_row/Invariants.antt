@@ -1,12 +1,8 @@
 -- `picture::rows::store_row` meets its contract: what the row held is stored, one sample a turn.
-use mathlib.Core.Path.{◌≡◌, refl, ◌∙◌}
+use mathlib.Core.Path.{◌≡◌}
 use Prim.Native.Nat.{◌≤◌, ◌-◌}
-use native.Mathlib.Nat.{zero-add}
-use native.Mathlib.Numerals.{add-one}
-use native.Mathlib.Omega.{arith}
-use lib.ListN.{length, replicate, length-set}
+use lib.ListN.{length}
 use Rattle.picture.specs.InnerRows.{row, run}
-use Rattle.picture.proofs.Laws.{row-values, row_same}
 use Rattle.picture.proofs.rows.store_row.Given as goal
 
 abbrev pub invariant-loop-c : goal.invariant-loop-c

@@ -1,9 +1,6 @@
 -- `picture::rows::take_row` meets its contract: the invariant has the samples taken so far.
-use mathlib.Core.Path.{◌≡◌, refl}
+use mathlib.Core.Path.{◌≡◌}
 use Prim.Native.Nat.{◌≤◌, ◌-◌}
-use native.Mathlib.Nat.{zero-add}
-use native.Mathlib.Numerals.{add-one}
-use native.Mathlib.Omega.{arith}
 use lib.ListN.{replicate}
 use Rattle.picture.specs.InnerRows.{row, run}
 use Rattle.picture.proofs.rows.take_row.Given as goal
