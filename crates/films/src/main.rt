@@ -15,7 +15,9 @@ ghost use Rattle.std.specs.Prelude.{◌≤◌, ◌<◌};
 
 use crate::bytes::fill;
 use crate::start::take_start;
-use libc::STDOUT_FILENO;
+
+// The file descriptor of POSIX.
+const STDOUT_FILENO: i32 = 1;
 
 // What a record was: each count is 0 or 1.
 #[derive(Clone, Copy)]

@@ -2,7 +2,9 @@
 ghost use Rattle.std.specs.Prelude.{◌≡◌, true, ◌+◌, ◌≤◌, ◌<◌, length};
 
 use ints::sat_i32;
-use libc::STDIN_FILENO;
+
+// The file descriptor of POSIX.
+const STDIN_FILENO: i32 = 0;
 
 pub fn wide(x: u8) -> u64
     ensures { (result ≡ x) × (result < 256) }

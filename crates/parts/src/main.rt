@@ -9,7 +9,6 @@ mod reading;
 ghost use Rattle.std.specs.Prelude.{◌≤◌, ◌<◌, length};
 
 use crate::bytes::{fill, number_at, wide};
-use libc::STDOUT_FILENO;
 
 // The plane of the blocks that follow: the first `size` samples of the buffer.
 #[derive(Clone, Copy)]
@@ -18,6 +17,9 @@ struct Plane {
     height: usize,
     size: usize,
 }
+
+// The file descriptor of POSIX.
+const STDOUT_FILENO: i32 = 1;
 
 // What a record was: each count is 0 or 1.
 #[derive(Clone, Copy)]

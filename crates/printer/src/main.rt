@@ -1,6 +1,10 @@
 // The printer: reads a header, a list of calls and bits from standard input, and prints the run's records, its bits and its refusal.
-use libc::{STDIN_FILENO, STDOUT_FILENO};
 use printing::print::print;
+
+// The file descriptors of POSIX.
+const STDIN_FILENO: i32 = 0;
+
+const STDOUT_FILENO: i32 = 1;
 
 fn main() {
     let mut input = [0u8; 32768];
