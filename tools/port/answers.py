@@ -43,20 +43,21 @@ def blocks(text):
 
 
 def signatures(root):
-    """function name -> (names of requires, names of ensures, names of &mut parameters), by the sources of all crates."""
+    """function name -> (crate, names of requires, names of ensures, names of &mut parameters, names of all parameters), by the sources of all crates."""
     out = {}
     for p in sorted(glob.glob(os.path.join(root, "*", "src", "*.rt"))):
         t = re.sub(r"//.*", "", open(p, encoding="utf-8").read())
         crate = p.split(os.sep)[-3]
-        for m in re.finditer(r"\bfn (\w+)[^(]*\(((?:[^()]|\([^()]*\))*)\)([^{;]*?(?:(?:requires|ensures)\b.*?)?)\n\{", t, re.S):
+        for m in re.finditer(r"\bfn (\w+)[^(]*\(((?:[^()]|\([^()]*\))*)\)((?:[^{;\[]|\[[^\]]*\])*?(?:(?:requires|ensures)\b.*?)?)\n\{", t, re.S):
             name, params, clauses = m[1], m[2], m[3]
             kinds = {"requires": [], "ensures": []}
             for c in re.finditer(r"^\s*(requires|ensures)(?: (\w+))? \{", clauses, re.M):
                 kinds[c[1]].append(c[2])
             muts = [q[0] for q in re.findall(r"(\w+): (&mut )", params)]
+            every = [q for q in re.findall(r"(?:^|,)\s*(?:mut )?(\w+)\s*:(?!:)", params)]
             module = os.path.basename(p)[:-3]
             key = f"{crate}::{name}" if module in ("lib", "main") else f"{crate}::{module}::{name}"
-            out.setdefault(key, []).append((crate, kinds["requires"], kinds["ensures"], muts))
+            out.setdefault(key, []).append((crate, kinds["requires"], kinds["ensures"], muts, every))
     return out
 
 
@@ -79,9 +80,11 @@ def by_clause(parts, names):
 
 
 class Function:
-    def __init__(self, entry, name):
+    def __init__(self, entry, name, crate=""):
         self.e = entry
         self.name = name
+        sigs = SIGNATURES.get("::".join([crate] + name.split(".")), [])
+        self.params = sigs[0][4] if len(sigs) == 1 else []
         self.needs = {norm(a): b for a, b in entry["needs"]}
         self.order = [b for a, b in entry["needs"]]
         self.at = {b: entry["asked_at"][i] for i, (a, b) in enumerate(entry["needs"])}
@@ -145,6 +148,11 @@ class Function:
         if parts[0] == "requires":
             names = (self.e["pre"] or {}).get("fields") or []
             return ["requires"] + by_clause(parts[1:], names)
+        if parts[0] == "args" and len(parts) > 1:
+            # an argument that was named by its place, as `t5`
+            t = re.fullmatch(r"t(\d+)", parts[1])
+            if t and parts[1] not in self.params and 0 < int(t[1]) <= len(self.params):
+                return ["args", self.params[int(t[1]) - 1]] + parts[2:]
         called = self.callee(place, parts[0])
         f, known = self.field(place, parts[0])
         tail = parts[1:]
@@ -276,6 +284,34 @@ def split_args(s):
 
 
 TRIVIAL = re.compile(r"^\s*search rules\s*$")
+EASY = re.compile(r"^\(λ [^.]*\. (search rules|omega arith|tt|refl)\)$")
+
+
+def align(args, order, named):
+    """Which argument answers which goal, where some goals of old are settled: goal -> the arguments that can stand at it.
+
+    An argument that names a goal stands at that goal, and one with a second binder at a goal on a call.
+    One that is dropped is easy, where that is possible."""
+
+    def fits(a, goal):
+        if a in named:
+            return named[a] == goal
+        m = re.match(r"^\(λ ([^.]*)\.", a)
+        return bool(m) and not (len(m[1].split()) > 1 and "requires" not in goal)
+
+    for drop in (lambda a: bool(EASY.match(a)) or not (a in named or a.startswith("(")), lambda a: a not in named):
+        n, k = len(args), len(order)
+        ahead = [[False] * (k + 1) for _ in range(n + 1)]
+        back = [[False] * (k + 1) for _ in range(n + 1)]
+        for i in range(n + 1):
+            for j in range(k + 1):
+                ahead[i][j] = (i == 0 and j == 0) or (i > 0 and ahead[i - 1][j] and drop(args[i - 1])) or (i > 0 and j > 0 and ahead[i - 1][j - 1] and fits(args[i - 1], order[j - 1]))
+        for i in range(n, -1, -1):
+            for j in range(k, -1, -1):
+                back[i][j] = (i == n and j == k) or (i < n and back[i + 1][j] and drop(args[i])) or (i < n and j < k and back[i + 1][j + 1] and fits(args[i], order[j]))
+        if ahead[n][k]:
+            return {g: list(dict.fromkeys(args[i] for i in range(n) if ahead[i][j] and fits(args[i], g) and back[i + 1][j + 1])) for j, g in enumerate(order)}
+    return None
 
 
 def convert(fn, text, module, keep_trivial=False):
@@ -360,6 +396,10 @@ def convert(fn, text, module, keep_trivial=False):
             if ok:
                 vals.pop("_", None)
                 rest = re.sub(r"(?<![\w.'\-₀-₉])(" + "|".join(re.escape(p) for p in sorted(vals, key=len, reverse=True)) + r")(?![\w'\-₀-₉])" if vals else r"(?!x)x", lambda z: vals[z[1]], rest)
+                # a signed variable that the loop keeps is its number there, and no longer its bits
+                for v in fixed:
+                    rest = re.sub(r"\(to_z \w+ (l\." + re.escape(v) + r")\)(?![\w'\-.])", r"\1", rest)
+                    rest = re.sub(r"\bto_z \w+ (l\." + re.escape(v) + r")(?![\w'\-.])", r"\1", rest)
                 new = f"{kind}-{newn}"
                 invs.append("\n".join(comments + [f"abbrev pub {new} : goal.{new}"] + unf + [f"{new} l ={rest}" if rest.strip() else f"{new} l ="]))
             else:
@@ -384,20 +424,28 @@ def convert(fn, text, module, keep_trivial=False):
     if spec_args is not None:
         need_args = [a for a in spec_args if a not in inv_names and a not in dec_names]
         if len(need_args) == len(fn.order):
-            for a, goal in zip(need_args, fn.order):
-                mm = re.match(r"^\(λ ((?:[^.\s]+ ?)+)\. (.*)\)$", a, re.S)
-                if mm:
-                    if TRIVIAL.match(mm[2]):
-                        continue
-                    v = mm[1].split()[0]
-                    inl.append((goal, None, [], [], [f"x {v} = {mm[2]}"]))
-                elif a not in named:
-                    warn.append(f"argument {a} for {goal}")
+            stand = {g: [a] for a, g in zip(need_args, fn.order)}
         else:
-            warn.append(f"spec has {len(need_args)} answers, names.json {len(fn.order)} needs")
-            for a in need_args:
-                if a.startswith("(") and "search rules" not in a:
-                    warn.append("inline: " + a)
+            stand = align(need_args, fn.order, named)
+            if stand is None:
+                warn.append(f"spec has {len(need_args)} answers, names.json {len(fn.order)} needs")
+                for a in need_args:
+                    if a.startswith("(") and "search rules" not in a:
+                        warn.append("inline: " + a)
+        for goal, could in (stand or {}).items():
+            if len({re.sub(r"^\(λ [^.]*\.", "", x) for x in could}) > 1:
+                warn.append(f"one of these for {goal}: " + " | ".join(could))
+                # a settled goal, such as that a slice keeps its length, stood before the return
+                could = could[-1:] if goal.startswith("returns") else [a for a in could if not EASY.match(a)][:1] or could[:1]
+            a = could[0]
+            mm = re.match(r"^\(λ ((?:[^.\s]+ ?)+)\. (.*)\)$", a, re.S)
+            if mm:
+                if TRIVIAL.match(mm[2]):
+                    continue
+                v = mm[1].split()[0]
+                inl.append((goal, None, [], [], [f"x {v} = {mm[2]}"]))
+            elif a not in named:
+                warn.append(f"argument {a} for {goal}")
     place_uses = set()
     out = []
 
@@ -497,7 +545,7 @@ def main(argv):
         if key not in names:
             print("no names for", f)
             continue
-        fn = Function(names[key], f)
+        fn = Function(names[key], f, crate)
         files, warn = convert(fn, text, f"Rattle.{crate}.proofs.{f}")
         to = os.path.join("proofs", rel)
         os.makedirs(to, exist_ok=True)

@@ -1,6 +1,6 @@
 -- A plane after residuals were added to it.
 -- Assumes nothing.
-use Rattle.std.specs.Prelude.{List, ℕ, ◌+◌, ℤ, pos, ◌+ℤ◌}
+use Rattle.std.specs.Prelude.{List, ℕ, ℤ, pos, ◌+ℤ◌}
 use Rattle.ints.specs.Z.{clip1_z}
 use Rattle.picture.specs.Painted.{painted}
 use Rattle.picture.specs.Picture.{seen}

@@ -1,6 +1,5 @@
 -- The DC within ±800,000, and the levels within what the entry leaves of it.
 use mathlib.Core.Bool.{◌&&◌}
-use borrow.Author.Rules.{rules}
 use native.Mathlib.Nat.{div-le_self}
 use native.Mathlib.Omega.{arith}
 use Rattle.transform.proofs.exact.all_small.Goals as goal

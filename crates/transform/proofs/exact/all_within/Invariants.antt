@@ -1,14 +1,6 @@
 -- One number a turn.
-use mathlib.Core.Path.{◌≡◌, refl, ◌∙◌, ap}
-use mathlib.Core.Bool.{◌&&◌}
-use Prim.Native.Nat.{◌≤◌, ◌+◌, ◌-◌}
-use native.Mathlib.Omega.{arith}
-use native.Mathlib.Numerals.{add-one}
-use lib.Dec.{leb}
-use lib.IntN.{pos, nat_abs}
-use lib.ListN.{get_or}
-use mir.Syntax.{w32}
-use Rattle.ints.proofs.Fits.{back}
+use mathlib.Core.Path.{◌≡◌}
+use Prim.Native.Nat.{◌≤◌, ◌-◌}
 use Rattle.transform.specs.InnerPasses.{all_within}
 use Rattle.transform.proofs.exact.all_within.Given as goal
 

@@ -1,9 +1,6 @@
 -- The loop copies from its start.
 use mathlib.Core.Path.{◌≡◌, refl, ◌∙◌}
-use Prim.Native.Nat.{◌≤◌, ◌+◌, ◌-◌}
 use native.Mathlib.Omega.{arith}
-use lib.IntN.{pos}
-use lib.ListN.{replicate, get_or}
 use mir.Syntax.{w16}
 use Rattle.ints.proofs.Fits.{back}
 use Rattle.picture.specs.InnerRows.{row}

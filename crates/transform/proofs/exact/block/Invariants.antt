@@ -1,14 +1,9 @@
 -- The loop copies from its start.
-use mathlib.Core.Path.{◌≡◌, refl, ◌∙◌}
+use mathlib.Core.Path.{◌≡◌}
 use Prim.Native.Nat.{◌≤◌, ◌+◌, ◌-◌}
-use native.Mathlib.Omega.{arith}
 use lib.IntN.{pos}
 use lib.ListN.{replicate, get_or}
-use mir.Syntax.{w16}
-use Rattle.ints.proofs.Fits.{back}
 use Rattle.picture.specs.InnerRows.{row}
-use Rattle.transform.specs.Residual.{placed, listed}
-use Rattle.transform.proofs.Laws.{fill_more}
 use Rattle.transform.proofs.exact.block.Given as goal
 
 abbrev pub invariant-loop-n : goal.invariant-loop-n

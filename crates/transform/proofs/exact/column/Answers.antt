@@ -1,7 +1,6 @@
 -- Four numbers of a column, their sums, each rounded.
 use mathlib.Core.Path.{◌≡◌, refl, ◌∙◌, ap}
 use mathlib.Core.List.{[], ◌∷◌}
-use borrow.Author.Rules.{rules}
 use Prim.Native.Nat.{◌+◌}
 use native.Mathlib.Omega.{arith}
 use lib.Dec.{lit≤}
@@ -61,23 +60,23 @@ sum-3 c = back w32 c.round-arg-4-1.given (ap (λ l. get_or l 3 (pos 0)) (summed 
 
 pub sums-t-requires : goal.sums-t-requires
 sums-t-requires c =
-        small-via (lit≤ tt) (first (goal.at.sums-t-requires c).After-sums-arg-1) (second (goal.at.sums-t-requires c).After-sums-arg-2-1) (third (goal.at.sums-t-requires c).After-sums-arg-3-1) (fourth c) (small (goal.at.sums-t-requires c).Start)
+    small-via (lit≤ tt) (first (goal.at.sums-t-requires c).After-sums-arg-1) (second (goal.at.sums-t-requires c).After-sums-arg-2-1) (third (goal.at.sums-t-requires c).After-sums-arg-3-1) (fourth c) (small (goal.at.sums-t-requires c).Start)
 
 pub round-requires : goal.round-requires
 round-requires c =
-        (omega (arith, ap nat_abs (sum-0 c), sum-abs 0 40000000 (small (goal.at.round-requires c).Start)), omega (arith, ap nat_abs (to_z-of_z c.ranges.dc), c.requires.1))
+    (omega (arith, ap nat_abs (sum-0 c), sum-abs 0 40000000 (small (goal.at.round-requires c).Start)), omega (arith, ap nat_abs (to_z-of_z c.ranges.dc), c.requires.1))
 
 pub round-requires-2 : goal.round-requires-2
 round-requires-2 c =
-        (omega (arith, ap nat_abs (sum-1 c), sum-abs 1 40000000 (small (goal.at.round-requires-2 c).Start)), omega (arith, ap nat_abs (to_z-of_z c.ranges.dc), c.requires.1))
+    (omega (arith, ap nat_abs (sum-1 c), sum-abs 1 40000000 (small (goal.at.round-requires-2 c).Start)), omega (arith, ap nat_abs (to_z-of_z c.ranges.dc), c.requires.1))
 
 pub round-requires-3 : goal.round-requires-3
 round-requires-3 c =
-        (omega (arith, ap nat_abs (sum-2 c), sum-abs 2 40000000 (small (goal.at.round-requires-3 c).Start)), omega (arith, ap nat_abs (to_z-of_z c.ranges.dc), c.requires.1))
+    (omega (arith, ap nat_abs (sum-2 c), sum-abs 2 40000000 (small (goal.at.round-requires-3 c).Start)), omega (arith, ap nat_abs (to_z-of_z c.ranges.dc), c.requires.1))
 
 pub round-requires-4 : goal.round-requires-4
 round-requires-4 c =
-        (omega (arith, ap nat_abs (sum-3 c), sum-abs 3 40000000 (small (goal.at.round-requires-4 c).Start)), omega (arith, ap nat_abs (to_z-of_z c.ranges.dc), c.requires.1))
+    (omega (arith, ap nat_abs (sum-3 c), sum-abs 3 40000000 (small (goal.at.round-requires-4 c).Start)), omega (arith, ap nat_abs (to_z-of_z c.ranges.dc), c.requires.1))
 
 pub returns : goal.returns
 unfolding column_sums sums_of

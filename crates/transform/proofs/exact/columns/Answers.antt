@@ -1,14 +1,10 @@
 -- One column, four numbers, a turn.
 use mathlib.Core.Path.{◌≡◌, refl, ap}
-use borrow.Author.Rules.{rules}
-use Prim.Native.Nat.{◌≤◌, ◌-◌}
 use native.Mathlib.Omega.{arith}
 use lib.IntN.{nat_abs}
-use mir.Syntax.{w16, w32}
-use mir.Val.{to_z}
+use mir.Syntax.{w16}
 use mir.Facts.{to_z-of_z}
 use Rattle.ints.proofs.Fits.{back}
-use Rattle.transform.specs.InnerPasses.{Columns}
 use Rattle.transform.proofs.Turns.{columns-turn}
 use Rattle.transform.proofs.exact.columns.Goals as goal
 
@@ -17,7 +13,7 @@ loop-c-init c = (omega arith, record { size = refl; done = λ j k lj lk. absurd 
 
 pub column-t-requires : goal.column-t-requires
 column-t-requires c =
-        (omega arith, omega (arith, ap nat_abs (to_z-of_z c.ranges.dc), c.requires.at_bound.1), c.requires.at_bound.2)
+    (omega arith, omega (arith, ap nat_abs (to_z-of_z c.ranges.dc), c.requires.at_bound.1), c.requires.at_bound.2)
 
 pub loop-c-preserved : goal.loop-c-preserved
 loop-c-preserved c =

@@ -40,7 +40,7 @@ unfolding rounded
 shifted c = ap (λ z. shr_z z 1048576) (to_z-of_z (fits-2 c) ∙ rounding-is c) ∙ shr-floor _ 1048576
 
 result : (c : Start) → r (shr_z (r (r (r c.args.t +ℤ r (pos 169 *ℤ r c.args.dc)) +ℤ pos 524288)) 1048576) ≡ rounded c.args.t c.args.dc
-result c = ap r (shifted c) ∙ to_z-of_z (fits (within-mag 4096 _ _ (small c).within tt))
+result c = ap r (shifted c) ∙ to_z-of_z {w = w32} (fits (within-mag 4096 _ _ (small c).within tt))
 
 pub overflow_mul-result : goal.overflow_mul-result
 overflow_mul-result c =

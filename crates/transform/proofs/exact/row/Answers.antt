@@ -1,6 +1,5 @@
 -- Four scaled levels, and their sums.
 use mathlib.Core.Path.{◌≡◌, ◌∙◌}
-use borrow.Author.Rules.{rules}
 use lib.Dec.{lit≤}
 use Prim.Native.Nat.{◌+◌}
 use mir.Syntax.{w32}

@@ -1,11 +1,8 @@
 -- One row, four numbers, a turn.
 use mathlib.Core.Path.{◌≡◌, refl}
-use borrow.Author.Rules.{rules}
-use Prim.Native.Nat.{◌≤◌, ◌-◌}
 use native.Mathlib.Omega.{arith}
 use mir.Syntax.{w32}
 use Rattle.ints.proofs.Fits.{back}
-use Rattle.transform.specs.InnerPasses.{Rows}
 use Rattle.transform.proofs.Turns.{rows-turn}
 use Rattle.transform.proofs.exact.rows.Goals as goal
 
@@ -14,7 +11,7 @@ loop-i-init c = (omega arith, record { size = refl; done = λ j k lj lk. absurd 
 
 pub row-t-requires : goal.row-t-requires
 row-t-requires c =
-        (omega (arith, c.requires.room), c.requires.entry, c.requires.small c.loop-i.i c.loop-i-test.true)
+    (omega (arith, c.requires.room), c.requires.entry, c.requires.small c.loop-i.i c.loop-i-test.true)
 
 pub loop-i-preserved : goal.loop-i-preserved
 loop-i-preserved c =

@@ -1,12 +1,6 @@
 -- One row, four numbers, a turn.
-use mathlib.Core.Path.{◌≡◌, refl}
-use borrow.Author.Rules.{rules}
 use Prim.Native.Nat.{◌≤◌, ◌-◌}
-use native.Mathlib.Omega.{arith}
-use mir.Syntax.{w32}
-use Rattle.ints.proofs.Fits.{back}
 use Rattle.transform.specs.InnerPasses.{Rows}
-use Rattle.transform.proofs.Turns.{rows-turn}
 use Rattle.transform.proofs.exact.rows.Given as goal
 
 abbrev pub invariant-loop-i : goal.invariant-loop-i

@@ -1,6 +1,5 @@
 -- The product is small, and so fits.
 use mathlib.Core.Path.{◌≡◌, refl, ◌∙◌, sym, subst}
-use borrow.Author.Rules.{rules}
 use Prim.Native.Nat.{◌<◌}
 use native.Mathlib.Omega.{arith}
 use lib.IntN.{pos, ◌*ℤ◌}

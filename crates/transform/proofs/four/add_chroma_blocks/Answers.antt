@@ -1,6 +1,5 @@
 -- The entry at the chroma index.
 use mathlib.Core.Path.{◌∙◌}
-use borrow.Author.Rules.{rules}
 use native.Mathlib.Omega.{arith}
 use Prim.Native.Nat.{◌+◌, ◌*◌}
 use lib.IntN.{pos}
@@ -13,12 +12,12 @@ use Rattle.transform.proofs.four.add_chroma_blocks.Goals as goal
 
 pub add_four-requires : goal.add_four-requires
 add_four-requires c =
-        let e = chroma-entry c.args.q c.requires.at_in_bounds.1 in
+    let e = chroma-entry c.args.q c.requires.at_in_bounds.1 in
     record { inside = c.requires.inside; at_in_bounds = (c.requires.at_in_bounds.0, omega (arith, c.chroma_coeff.ensures), omega (arith, c.chroma_coeff.ensures)) }
 
 pub returns : goal.returns
 unfolding chroma_residual
 returns c =
-        let e = c.chroma_coeff.ensures in
+    let e = c.chroma_coeff.ensures in
     c.add_four.ensures
     ∙ (λ i. added_four c.args.plane.now c.args.stride c.args.x c.args.y (λ b. residual (e i) (get_or c.args.dc b (pos 0)) (placed c.args.levels.now (c.args.at + 16 * b))))

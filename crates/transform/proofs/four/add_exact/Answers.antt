@@ -14,12 +14,12 @@ use Rattle.transform.proofs.four.add_exact.Goals as goal
 
 pub reconstruct_4x4-requires : goal.reconstruct_4x4-requires
 reconstruct_4x4-requires c =
-        let r = c.residuals-r in
+    let r = c.residuals-r in
     (search rules, block-short c.requires.exact.0 c.args.dc 0 (c.requires.exact.1 0 (lit< tt)) r.ensures (lit< tt) c.block.ensures)
 
 pub reconstruct_4x4-requires-2 : goal.reconstruct_4x4-requires-2
 reconstruct_4x4-requires-2 c =
-        let r = c.residuals-r in
+    let r = c.residuals-r in
     (search rules, block-short c.requires.exact.0 c.args.dc 1 (c.requires.exact.1 1 (lit< tt)) r.ensures (lit< tt) c.block-2.ensures)
 
 pub overflow_add-y : goal.overflow_add-y
@@ -27,7 +27,7 @@ overflow_add-y c = omega (arith, inside-high c.requires.inside)
 
 pub reconstruct_4x4-requires-3 : goal.reconstruct_4x4-requires-3
 reconstruct_4x4-requires-3 c =
-        let r = c.residuals-r in
+    let r = c.residuals-r in
     (search rules, block-short c.requires.exact.0 c.args.dc 2 (c.requires.exact.1 2 (lit< tt)) r.ensures (lit< tt) c.block-3.ensures)
 
 pub overflow_add-y-2 : goal.overflow_add-y-2
@@ -35,12 +35,12 @@ overflow_add-y-2 c = omega (arith, inside-high c.requires.inside)
 
 pub reconstruct_4x4-requires-4 : goal.reconstruct_4x4-requires-4
 reconstruct_4x4-requires-4 c =
-        let r = c.residuals-r in
+    let r = c.residuals-r in
     (inside-lower-right c.requires.inside (omega (arith, c.reconstruct_4x4-3.auto.plane, c.reconstruct_4x4-2.auto.plane, c.reconstruct_4x4.auto.plane)), block-short c.requires.exact.0 c.args.dc 3 (c.requires.exact.1 3 (lit< tt)) r.ensures (lit< tt) c.block-4.ensures)
 
 pub returns : goal.returns
 returns c =
-        let r = c.residuals-r in
+    let r = c.residuals-r in
     four-added (λ b. residual c.args.scale (get_or c.args.dc b (pos 0)) (placed c.args.levels.now (c.args.at + 16 * b))) c.args.stride c.args.x c.args.y c.args.plane.now
     (c.reconstruct_4x4.ensures ∙ added-values c.args.plane.now c.args.stride c.args.x c.args.y _ _ (block-is c.requires.exact.0 c.args.dc 0 r.ensures (lit< tt) c.block.ensures))
     (c.reconstruct_4x4-2.ensures ∙ added-values c.reconstruct_4x4.new.plane c.args.stride (c.args.x + 4) c.args.y _ _ (block-is c.requires.exact.0 c.args.dc 1 r.ensures (lit< tt) c.block-2.ensures))

@@ -1,7 +1,6 @@
 -- The quantiser's entry, and no DC.
 use mathlib.Core.Path.{◌∙◌}
 use mathlib.Core.List.{[], ◌∷◌}
-use borrow.Author.Rules.{rules}
 use native.Mathlib.Omega.{arith}
 use Prim.Native.Nat.{◌+◌, ◌*◌}
 use lib.IntN.{pos}
@@ -14,12 +13,12 @@ use Rattle.transform.proofs.four.add_luma_quadrant.Goals as goal
 
 pub add_four-requires : goal.add_four-requires
 add_four-requires c =
-        let e = entry c.args.q c.requires.at_in_bounds.1 in
+    let e = entry c.args.q c.requires.at_in_bounds.1 in
     record { inside = c.requires.inside; at_in_bounds = (c.requires.at_in_bounds.0, omega (arith, c.dequant_coeff.ensures), omega (arith, c.dequant_coeff.ensures)) }
 
 pub returns : goal.returns
 unfolding added_four luma_residual
 returns c =
-        let e = c.dequant_coeff.ensures in
+    let e = c.dequant_coeff.ensures in
     c.add_four.ensures
     ∙ (λ i. added_four c.args.plane.now c.args.stride c.args.x c.args.y (λ b. residual (e i) (get_or (pos 0 ∷ pos 0 ∷ pos 0 ∷ pos 0 ∷ []) b (pos 0)) (placed c.args.levels.now (c.args.at + 16 * b))))

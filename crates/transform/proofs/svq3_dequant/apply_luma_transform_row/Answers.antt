@@ -1,5 +1,4 @@
 -- Each step fits 64 bits, and `sat_i32` holds the sum.
-use borrow.Author.Rules.{rules}
 use mir.Syntax.{w32}
 use Rattle.ints.specs.Z.{sat_z}
 use Rattle.ints.proofs.Fits.{signed, back, via}

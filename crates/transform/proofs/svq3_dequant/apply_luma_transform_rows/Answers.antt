@@ -1,7 +1,6 @@
 -- Sixteen calls give the sixteen numbers, the first row of the matrix first.
 use mathlib.Core.Path.{◌∙◌}
 use mathlib.Core.List.{[], ◌∷◌}
-use borrow.Author.Rules.{rules}
 use mir.Syntax.{w32}
 use Rattle.ints.proofs.Fits.{back}
 use Rattle.transform.specs.Residual.{placed, listed, rows_of}
@@ -12,7 +11,7 @@ use Rattle.transform.proofs.svq3_dequant.apply_luma_transform_rows.Goals as goal
 pub returns : goal.returns
 unfolding listed turned rows_of placed dot_row
 returns c =
-                                                                let e1 = back w32 c.weigh_row.type_inv (c.weigh_row.ensures ∙ (weighed-dot _ _ _ _).0) in
+    let e1 = back w32 c.weigh_row.type_inv (c.weigh_row.ensures ∙ (weighed-dot _ _ _ _).0) in
     let e2 = back w32 c.weigh_row-2.type_inv (c.weigh_row-2.ensures ∙ (weighed-dot _ _ _ _).0) in
     let e3 = back w32 c.weigh_row-3.type_inv (c.weigh_row-3.ensures ∙ (weighed-dot _ _ _ _).0) in
     let e4 = back w32 c.weigh_row-4.type_inv (c.weigh_row-4.ensures ∙ (weighed-dot _ _ _ _).0) in

@@ -1,5 +1,4 @@
 -- Each sum fits 64 bits.
-use borrow.Author.Rules.{rules}
 use mir.Syntax.{w32}
 use Rattle.ints.proofs.Fits.{signed, back, via}
 use Rattle.ints.proofs.Same.{reads}

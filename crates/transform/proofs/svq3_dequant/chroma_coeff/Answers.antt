@@ -1,6 +1,5 @@
 -- The entry at the chroma index.
 use mathlib.Core.Path.{◌∙◌, ap}
-use borrow.Author.Rules.{rules}
 use native.Mathlib.Omega.{arith}
 use Rattle.transform.specs.Tables.{dequant_coeff, chroma_coeff}
 use Rattle.transform.proofs.Tables.{index}

@@ -1,6 +1,5 @@
 -- The entry of the table in the code is that of the definition.
 use mathlib.Core.Path.{refl}
-use borrow.Author.Rules.{rules}
 use Rattle.transform.specs.Tables.{chroma_quantiser_index}
 use Rattle.transform.proofs.svq3_dequant.chroma_quantiser_index.Goals as goal
 

@@ -1,6 +1,5 @@
 -- The entry at the chroma index scales each of the four levels.
 use mathlib.Core.Path.{◌≡◌, ◌∙◌, ap}
-use borrow.Author.Rules.{rules}
 use mir.Syntax.{w32}
 use Prim.Native.Nat.{ℕ, ◌≤◌, ◌+◌}
 use native.Mathlib.Omega.{arith}
@@ -17,7 +16,7 @@ small c = omega (arith, c.chroma_coeff-scale.ensures, chroma-entry c.args.q c.re
 pub returns : goal.returns
 unfolding chroma_dc
 returns c =
-                    let a = c.args in
+    let a = c.args in
     let by : (n : ℕ) → scaled_at c.chroma_coeff-scale.result a.levels.now n ≡ scaled_at (chroma_coeff a.q) a.levels.now n = λ n. ap (λ s. scaled_at s a.levels.now n) c.chroma_coeff-scale.ensures in
     let e1 = back w32 c.scale_level-a.type_inv (c.scale_level-a.ensures ∙ by a.at) in
     let e2 = back w32 c.scale_level-b.type_inv (c.scale_level-b.ensures ∙ by (a.at + 1)) in

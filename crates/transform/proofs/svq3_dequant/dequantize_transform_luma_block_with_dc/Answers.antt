@@ -1,6 +1,5 @@
 -- Scaled, the rows, the columns, rounded: each step is what the last gave.
 use mathlib.Core.Path.{◌∙◌, ap}
-use borrow.Author.Rules.{rules}
 use mir.Facts.{to_z-of_z}
 use Rattle.transform.specs.Residual.{placed, listed}
 use Rattle.transform.specs.InnerArrays.{shortened, finished}
@@ -9,7 +8,7 @@ use Rattle.transform.proofs.svq3_dequant.dequantize_transform_luma_block_with_dc
 
 pub returns : goal.returns
 returns c =
-        let dc = to_z-of_z c.ranges.dc in
+    let dc = to_z-of_z c.ranges.dc in
     let x = c.scale_luma_block_by_quantiser-x in
     let y = c.apply_luma_transform_rows-y in
     let z = c.apply_luma_transform_rows-z in

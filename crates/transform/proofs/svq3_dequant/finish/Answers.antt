@@ -1,6 +1,5 @@
 -- The sum fits 64 bits, its quotient is held by `clamp_i64`, and so fits 16.
 use mathlib.Core.Path.{◌≡◌, ◌∙◌, sym, subst}
-use borrow.Author.Rules.{rules}
 use mir.Syntax.{w16, w64}
 use mir.Val.{SFits}
 use mir.Facts.{to_z-of_z}

@@ -1,9 +1,8 @@
 -- The loop fills the array from its start.
 use mathlib.Core.Path.{◌≡◌, refl, ◌∙◌, ap}
-use Prim.Native.Nat.{◌≤◌, ◌-◌}
 use native.Mathlib.Omega.{arith}
 use lib.IntN.{pos}
-use lib.ListN.{replicate, get_or}
+use lib.ListN.{get_or}
 use mir.Syntax.{w16, w32}
 use mir.Val.{to_z, of_z}
 use mir.Facts.{to_z-of_z}

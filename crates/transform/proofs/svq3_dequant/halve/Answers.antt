@@ -1,5 +1,4 @@
 -- Half of a 64-bit number fits, and `sat_i32` holds it.
-use borrow.Author.Rules.{rules}
 use mir.Syntax.{w32}
 use Rattle.ints.specs.Z.{sat_z}
 use Rattle.ints.proofs.Fits.{signed, back, via}

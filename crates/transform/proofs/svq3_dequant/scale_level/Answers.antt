@@ -1,5 +1,4 @@
 -- The product of a level and an entry fits 64 bits, and `sat_i32` holds it.
-use borrow.Author.Rules.{rules}
 use mir.Syntax.{w32}
 use Prim.Native.Nat.{◌<◌}
 use native.Mathlib.Omega.{arith}

@@ -1,15 +1,10 @@
 -- The loop fills the array from its start.
-use mathlib.Core.Path.{◌≡◌, refl, ◌∙◌}
+use mathlib.Core.Path.{◌≡◌}
 use Prim.Native.Nat.{◌≤◌, ◌+◌, ◌-◌}
-use native.Mathlib.Omega.{arith}
 use lib.IntN.{pos}
 use lib.ListN.{replicate}
-use mir.Syntax.{w32}
-use Rattle.ints.proofs.Fits.{back}
 use Rattle.picture.specs.InnerRows.{row}
-use Rattle.transform.specs.Residual.{placed, listed, scaled}
 use Rattle.transform.specs.ChromaDc.{scaled_at}
-use Rattle.transform.proofs.Laws.{fill_more}
 use Rattle.transform.proofs.svq3_dequant.scale_luma_block_by_quantiser.Given as goal
 
 abbrev pub invariant-loop-n : goal.invariant-loop-n

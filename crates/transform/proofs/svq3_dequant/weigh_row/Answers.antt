@@ -1,6 +1,5 @@
 -- The four numbers of a row, as the array holds them.
 use mathlib.Core.Path.{refl, ◌∙◌}
-use borrow.Author.Rules.{rules}
 use mir.Syntax.{w32}
 use mir.Facts.{to_z-of_z}
 use Rattle.ints.proofs.Fits.{back}
@@ -10,7 +9,7 @@ use Rattle.transform.proofs.svq3_dequant.weigh_row.Goals as goal
 pub returns : goal.returns
 unfolding dot_row
 returns c =
-        let p = to_z-of_z c.ranges.p in
+    let p = to_z-of_z c.ranges.p in
     let q = to_z-of_z c.ranges.q in
     let r = to_z-of_z c.ranges.r in
     let t = to_z-of_z c.ranges.s in

@@ -1,10 +1,10 @@
 -- One sample a turn; what a turn reads, no turn before it wrote.
 use mathlib.Core.Path.{◌≡◌, refl, sym, subst, ◌∙◌, ap}
-use Prim.Native.Nat.{◌≤◌, ◌<◌, ◌+◌, ◌-◌}
+use Prim.Native.Nat.{◌<◌, ◌+◌}
 use native.Mathlib.Omega.{arith}
 use lib.IntN.{ℤ, pos, ◌+ℤ◌}
 use lib.Signed.{mag}
-use lib.ListN.{length, get_or, length-set}
+use lib.ListN.{get_or, length-set}
 use mir.Syntax.{w16}
 use Rattle.ints.specs.Z.{clip1_z}
 use Rattle.ints.proofs.Fits.{read, back}
@@ -24,7 +24,7 @@ loop-c-init c = (omega arith, refl, refl)
 
 pub reconstruct_sample-requires : goal.reconstruct_sample-requires
 reconstruct_sample-requires c =
-        subst (λ (z : ℤ). mag z < 4096) (sym (taken c)) (c.requires.2.small (c.args.from + c.loop-c.c))
+    subst (λ (z : ℤ). mag z < 4096) (sym (taken c)) (c.requires.2.small (c.args.from + c.loop-c.c))
 
 pub loop-c-preserved : goal.loop-c-preserved
 unfolding reconstructed_at
@@ -43,3 +43,30 @@ pub returns : goal.returns
 returns c =
     let e : c.loop-c.c ≡ 4 = omega arith in
     c.loop-c.invariant.2 ∙ rw e refl
+
+pub overflow_add-at : goal.overflow_add-at
+overflow_add-at c = omega arith
+
+pub bounds-plane-at : goal.bounds-plane-at
+bounds-plane-at c = omega arith
+
+pub overflow_add-from : goal.overflow_add-from
+overflow_add-from c = omega arith
+
+pub offset_bounds-residual-from : goal.offset_bounds-residual-from
+offset_bounds-residual-from c = omega arith
+
+pub bounds-residual-from : goal.bounds-residual-from
+bounds-residual-from c = omega arith
+
+pub overflow_add-plane : goal.overflow_add-plane
+overflow_add-plane c = omega arith
+
+pub bounds-plane-at-in-loop-c : goal.bounds-plane-at-in-loop-c
+bounds-plane-at-in-loop-c c = omega arith
+
+pub overflow_add-c : goal.overflow_add-c
+overflow_add-c c = omega arith
+
+pub loop-c-smaller : goal.loop-c-smaller
+loop-c-smaller c = omega arith

@@ -1,15 +1,8 @@
 -- One sample a turn; what a turn reads, no turn before it wrote.
-use mathlib.Core.Path.{◌≡◌, refl, sym, subst, ◌∙◌, ap}
-use Prim.Native.Nat.{◌≤◌, ◌<◌, ◌+◌, ◌-◌}
-use native.Mathlib.Omega.{arith}
-use lib.IntN.{ℤ, pos, ◌+ℤ◌}
-use lib.Signed.{mag}
-use lib.ListN.{length, get_or, length-set}
-use mir.Syntax.{w16}
-use Rattle.ints.specs.Z.{clip1_z}
-use Rattle.ints.proofs.Fits.{read, back}
+use mathlib.Core.Path.{◌≡◌}
+use Prim.Native.Nat.{◌≤◌, ◌-◌}
+use lib.ListN.{length}
 use Rattle.picture.specs.InnerRows.{row}
-use Rattle.picture.proofs.Laws.{row_more, row_other}
 use Rattle.transform.specs.InnerArrays.{reconstructed_at}
 use Rattle.transform.proofs.svq3_pred.add_row.Given as goal
 

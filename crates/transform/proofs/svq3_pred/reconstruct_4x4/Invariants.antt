@@ -1,13 +1,10 @@
 -- One row a turn.
-use mathlib.Core.Path.{◌≡◌, refl, ◌∙◌}
+use mathlib.Core.Path.{◌≡◌}
 use Prim.Native.Nat.{◌≤◌, ◌-◌}
-use native.Mathlib.Omega.{arith}
 use lib.ListN.{length}
 use Rattle.picture.specs.InnerRows.{rows}
-use Rattle.picture.proofs.Laws.{rows-painted, Row, inside-row}
 use Rattle.transform.specs.Residual.{placed}
-use Rattle.transform.specs.Added.{reconstructed, added}
-use Rattle.transform.proofs.Laws.{row-added}
+use Rattle.transform.specs.Added.{reconstructed}
 use Rattle.transform.proofs.svq3_pred.reconstruct_4x4.Given as goal
 
 abbrev pub invariant-loop-j : goal.invariant-loop-j

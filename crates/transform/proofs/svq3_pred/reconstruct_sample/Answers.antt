@@ -1,6 +1,5 @@
 -- The sum fits 16 bits; the lesser of it and 255 is the sample, or 0 where it lies below.
 use mathlib.Core.Path.{◌≡◌, ◌∙◌, ap}
-use borrow.Author.Rules.{rules}
 use native.Mathlib.Omega.{arith}
 use lib.IntN.{ℤ, pos, nat_abs, ◌+ℤ◌}
 use mir.Syntax.{w8, w16}

@@ -14,6 +14,6 @@ reconstruct_4x4-requires c = (search rules, subst Short (sym c.dequantize_transf
 
 pub returns : goal.returns
 returns c =
-        c.reconstruct_4x4.ensures
+    c.reconstruct_4x4.ensures
     ∙ added-listed c.args.plane.now c.args.stride c.args.x c.args.y _ c.dequantize_transform_luma_block_with_dc-r.ensures (λ n. omega (arith, c.slice_known-1.given n))
     ∙ ap (λ d. added c.args.plane.now c.args.stride c.args.x c.args.y (residual c.args.scale d (placed c.args.levels.now c.args.at))) (to_z-of_z c.ranges.dc)

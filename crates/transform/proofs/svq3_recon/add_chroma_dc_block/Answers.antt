@@ -24,7 +24,7 @@ reconstruct_4x4-requires c = (search rules, subst Short (sym (sixteen (goal.at.r
 
 pub returns : goal.returns
 returns c =
-        λ scale.
+    λ scale.
     c.reconstruct_4x4.ensures
     ∙ added-listed c.args.plane.now c.args.stride c.args.x c.args.y _ (sixteen (goal.at.returns c).After-finish-v) (λ n. omega (arith, c.slice_known-1.given n))
     ∙ ap (added c.args.plane.now c.args.stride c.args.x c.args.y) (sym (dc-only scale c.args.dc))
