@@ -223,7 +223,7 @@ module _ (o : ℤ) (n side : ℕ) (small : side ≤ 65536) (e : lies_in o n side
       (omega (arith, z-rules, p.0, abs-z o, mag-z o), omega (arith, z-rules, p.0, p.1, abs-z o, mag-z o, diff-z (pos side) (pos n)))
 
   same : read w64 o ≡ o
-  same = to_z-of_z (record { sfits = rw one.0 (omega (arith, one.1)) })
+  same = to_z-of_z {w = w64} (record { sfits = rw one.0 (omega (arith, one.1)) })
 
   lies-read : read w64 o ≡ pos placed_at
   lies-read = same ∙ one.0 ∙ ap (λ (z : ℤ). pos (nat_abs z)) (sym same)

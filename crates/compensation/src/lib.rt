@@ -1,3 +1,4 @@
+#![tactic(auto)]
 // Motion compensation: blocks of a plane at a sixth of a sample's precision, past its edges too.
 pub mod kernel;
 pub mod svq3_mc;

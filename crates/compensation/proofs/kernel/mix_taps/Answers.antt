@@ -1,0 +1,8 @@
+-- `compensation::kernel::mix_taps` answers `mixed_taps`.
+use mathlib.Core.Path.{refl}
+use Rattle.compensation.specs.InnerKernel.{mixed_taps}
+use Rattle.compensation.proofs.kernel.mix_taps.Goals as goal
+
+pub returns : goal.returns
+unfolding mixed_taps
+returns c = rw (c.weigh.ensures, c.raise-4.ensures, c.raise-3.ensures, c.raise-2.ensures, c.raise.ensures) refl
