@@ -121,7 +121,7 @@ class Function:
             for var, step in self.places[p][3] or []:
                 if norm(step) == n:
                     return "type_inv." + var, True
-        return f, False
+        return self.field(place, f[:-4]) if f.endswith("_lem") else (f, False)
 
     def callee(self, place, f):
         """The name of the function whose call is the step f."""
@@ -130,7 +130,7 @@ class Function:
                 i = list(self.places).index(p)
                 called = self.e["places"][i][3]
                 return called
-        return None
+        return self.callee(place, f[:-4]) if f.endswith("_lem") else None
 
     def armed(self, place, f):
         """Whether f is an old step of an arm."""
@@ -178,15 +178,23 @@ class Function:
 def convert_body(fn, lines, var_places, need, warn):
     """Rewrites paths. var_places: variable -> (old) place."""
     alias = {v: (v, p, []) for v, p in var_places.items()}
+    lets = {}        # a name that a `let` keeps -> its path
     lines = re.sub(r"record \{ s?fits = [\w.\-]*known[-_]told[\w.\-]* \}", "search rules", "\n".join(lines)).split("\n")
 
     def sub(text):
-        path = re.compile(r"(?<![\w.'\-])(" + "|".join(re.escape(v) for v in sorted(alias, key=len, reverse=True)) + r")((?:\.[A-Za-z0-9_\-₀-₉']+)*)(?![\w'])")
+        path = re.compile(r"(?<![\w.'\-])(" + "|".join(re.escape(v) for v in sorted({**alias, **lets}, key=len, reverse=True)) + r")((?:\.[A-Za-z0-9_\-₀-₉']+)*)(?![\w'])")
         pos, out = 0, []
         while True:
             m = path.search(text, pos)
             if not m:
                 break
+            if m[1] in lets:
+                base, place, parts = lets[m[1]]
+                short = fn.resolve(place, parts)
+                long = fn.resolve(place, parts + ["type_inv" if x == "type-inv" else x for x in m[2].split(".") if x])
+                out.append(text[pos:m.start()] + ".".join([m[1]] + long[len(short):] if long[:len(short)] == short else [base] + long))
+                pos = m.end()
+                continue
             base, place, parts = alias[m[1]]
             parts = list(parts)
             more = [x for x in m[2].split(".") if x]
@@ -204,9 +212,15 @@ def convert_body(fn, lines, var_places, need, warn):
                 if open_list or not parts:
                     out.append(text[pos:m.start()][:la.start()])
                     alias[la[1]] = (base, place, parts)
+                    lets.pop(la[1], None)
                     rest = text[m.end() + ends.end():]
-                    out.append(sub(rest))
+                    out.append(sub(rest.lstrip()))
                     return "".join(out)
+                out.append(text[pos:m.start()] + base + "." + ".".join(fn.resolve(place, parts)))
+                alias.pop(la[1], None)
+                lets[la[1]] = (base, place, parts)
+                out.append(sub(text[m.end():]))
+                return "".join(out)
             out.append(text[pos:m.start()])
             if parts:
                 out.append(base + "." + ".".join(fn.resolve(place, parts)))
@@ -320,7 +334,7 @@ def convert(fn, text, module, keep_trivial=False):
     inv_uses = []
     bs = blocks(text)
     named = {}       # declared name -> goal
-    spec_args = None
+    spec_args, spec_unf = None, []
     for b in bs:
         for l in list(b):
             pass
@@ -364,6 +378,7 @@ def convert(fn, text, module, keep_trivial=False):
             whole = " ".join(code[body_i:] if body_i else code)
             spec_args = re.search(r"tie\.spec\s*(.*)\)\s*$", whole, re.S)
             spec_args = split_args(spec_args[1]) if spec_args else []
+            spec_unf = unf
             continue
         ms = re.match(r"tie\.(invariant|decreases)-(" + WORD + r")", sig)
         if ms:
@@ -493,6 +508,7 @@ def convert(fn, text, module, keep_trivial=False):
         out.append("\n".join(comments + [types("\n".join(s2))] + [types("\n".join(b2))] if res else comments + [types("\n".join(s2))]))
     for goal, name, comments, unf, body in answers + inl:
         nm = name or "x"
+        unf = unf or ([] if name else spec_unf)
         mm = re.match(re.escape(nm) + r"((?: \S+)*?) =(.*)", body[0])
         params = mm[1].split()
         rest = [mm[2]] + body[1:]

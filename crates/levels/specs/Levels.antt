@@ -9,8 +9,6 @@ use Rattle.levels.specs.Scan.{raster, unraster}
 use Rattle.levels.specs.declared.svq3_coeff.ResidualBook.{ResidualBook}
 use Rattle.levels.specs.declared.svq3_coeff.LevelRun.{LevelRun}
 use Rattle.levels.specs.declared.svq3_coeff.LevelRun.TheVariants as said
-use Rattle.levels.specs.declared.svq3_coeff.Step.TheVariants as step
-use Rattle.levels.specs.declared.svq3_coeff.ListAnswer.TheVariants.{End}
 
 abbrev pub zeros : ℕ → List ℤ
 zeros n = replicate n (pos 0)

@@ -1,3 +1,4 @@
+#![tactic(auto)]
 // Pattern, level and run, lists of levels.
 mod digits;
 pub mod items;

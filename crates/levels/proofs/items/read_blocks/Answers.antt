@@ -1,0 +1,52 @@
+-- `levels::items::read_blocks`: the lists that are left, joined to those that were read, are the whole.
+use mathlib.Core.Path.{◌≡◌, refl, ◌∙◌}
+use Prim.Native.Nat.{◌+◌, ◌-◌, ◌*◌}
+use native.Mathlib.Omega.{arith}
+use Rattle.bits.specs.Bits.{bit_list}
+use Rattle.levels.specs.declared.svq3_coeff.ResidualBook.TheVariants.{NormalScan}
+use Rattle.levels.specs.InnerSides.{read_side}
+use Rattle.levels.specs.InnerLeft.{left_side}
+use Rattle.levels.proofs.Left.{goes-all, side-on, side-stops, side-ends}
+use Rattle.levels.proofs.items.read_blocks.Goals as goal
+
+pub loop-i-init : goal.loop-i-init
+loop-i-init c =
+    let a = c.args in
+    let z : a.count - 0 ≡ a.count = omega arith in
+    let f : a.place + 16 * 0 ≡ a.place = omega arith in
+    (rw (z, f) (goes-all (read_side NormalScan a.start a.count a.place) (left_side NormalScan a.start a.count a.place) a.levels.now (bit_list a.bits.now) a.at), omega arith, refl)
+
+pub overflow_mul-i : goal.overflow_mul-i
+overflow_mul-i c = record { fits = omega (arith, c.loop-i-test.true, c.requires.0) }
+
+pub overflow_add-place : goal.overflow_add-place
+overflow_add-place c = record { fits = omega (arith, c.loop-i-test.true, c.requires.0) }
+
+pub decode_residual_4x4_normal-requires : goal.decode_residual_4x4_normal-requires
+decode_residual_4x4_normal-requires c = (omega (arith, c.loop-i-test.true, c.requires.0, c.loop-i.invariant.2), c.requires.1, c.requires.2)
+
+pub overflow_add-i : goal.overflow_add-i
+overflow_add-i c = omega (arith, c.loop-i-test.true)
+
+pub loop-i-smaller : goal.loop-i-smaller
+loop-i-smaller c = omega (arith, c.loop-i-test.true)
+
+pub loop-i-preserved : goal.loop-i-preserved
+loop-i-preserved c =
+    let a = c.args in
+    let l = c.loop-i in
+    let h = c.loop-i-test.true in
+    let d = c.decode_residual_4x4_normal in
+    (side-on NormalScan a.start a.place a.count l.i l.p l.levels l.invariant.0 h _ _ d.ensures _ c.in-End.is, omega (arith, h), d.auto.out ∙ l.invariant.2)
+
+pub returns-in-Refused : goal.returns-in-Refused
+returns-in-Refused c =
+    let a = c.args in
+    let l = c.loop-i in
+    side-stops NormalScan a.start a.place a.count l.i l.p l.levels l.invariant.0 c.loop-i-test.true _ _ c.decode_residual_4x4_normal.ensures _ c.in-Refused.is
+
+pub returns : goal.returns
+returns c =
+    let a = c.args in
+    let l = c.loop-i in
+    side-ends NormalScan a.start a.place a.count l.i l.p l.levels l.invariant.0 c.loop-i-test.false

@@ -1,0 +1,37 @@
+-- `levels::items::read_items`: what is still to be read, joined to what was read, is the whole.
+use mathlib.Core.Path.{◌≡◌, ◌∙◌}
+use native.Mathlib.Omega.{arith}
+use Rattle.bits.specs.Bits.{bit_list}
+use Rattle.levels.specs.Items.{read_items}
+use Rattle.levels.specs.InnerLeft.{left_items}
+use Rattle.levels.proofs.Left.{goes-all, goes_last, quadrant-on, quadrant-stops}
+use Rattle.levels.proofs.items.read_items.Goals as goal
+
+pub loop-q-init : goal.loop-q-init
+loop-q-init c = let a = c.args in (goes-all (read_items 26 0 a.pattern) (left_items 26 0 a.pattern) a.levels.now (bit_list a.bits.now) a.at, omega arith, c.requires.0)
+
+pub read_quadrant-requires : goal.read_quadrant-requires
+read_quadrant-requires c = (c.loop-q.invariant.2, c.requires.1, c.loop-q-test.true)
+
+pub read_chroma-requires : goal.read_chroma-requires
+read_chroma-requires c = (c.loop-q.invariant.2, c.requires.1)
+
+pub loop-q-preserved : goal.loop-q-preserved
+loop-q-preserved c =
+    let a = c.args in
+    let l = c.loop-q in
+    let h = c.loop-q-test.true in
+    let d = c.read_quadrant in
+    (quadrant-on a.pattern l.q l.p l.levels h l.invariant.0 _ _ d.ensures _ c.in-End.is, omega (arith, h), d.auto.levels ∙ l.invariant.2)
+
+pub returns-in-Refused : goal.returns-in-Refused
+returns-in-Refused c =
+    let a = c.args in
+    let l = c.loop-q in
+    quadrant-stops a.pattern l.q l.p l.levels c.loop-q-test.true l.invariant.0 _ _ c.read_quadrant.ensures _ c.in-Refused.is
+
+pub returns : goal.returns
+returns c =
+    let l = c.loop-q in
+    let e : l.q ≡ 4 = omega (arith, c.loop-q-test.false, l.invariant.1) in
+    goes_last _ _ _ _ _ (rw e at l.invariant.0) c.read_chroma.ensures.answers c.read_chroma.ensures.leaves
