@@ -24,7 +24,7 @@ use Rattle.vectors.specs.declared.svq3_mb.Svq3MvPrecision.TheVariants.{Fullpel, 
 
 -- ---- a field as the machine reads it, by what its struct tells
 pub field-read : (z : ℤ) → mag z < 2 ^ 31 → read w32 z ≡ z
-field-read z h = to_z-of_z (record { sfits = h })
+field-read z h = to_z-of_z {w = w32} (record { sfits = h })
 
 -- ---- a sixth, rounded down, by a division of naturals: k more is no negative number
 module _ (k : ℕ) (low : 1179648 ≤ k) (high : k < 2 ^ 21) (v : ℤ) (h : nat_abs v ≤ 1179648) where
