@@ -9,7 +9,7 @@ use native.Mathlib.Omega.{arith}
 use lib.IntN.{ℤ, pos}
 use lib.ListN.{set}
 use borrow.Author.Tests.{eq-eqb, ne_eqb}
-use Rattle.ints.specs.Z.{if◌then◌else◌}
+use Rattle.ints.specs.Z.{when◌then◌else◌}
 use Rattle.picture.specs.InnerRows.{row, rows}
 use Rattle.picture.proofs.Laws.{row_more, rows_more}
 use Rattle.vectors.specs.Modes.{num_motion_vectors}
@@ -45,11 +45,11 @@ owns-more {l} l₀ vs s x y whose r e f =
 
 -- a skip, and any other mode
 skip-field : (r : Record) (f : Field) → r.head.mode ≡ 0 → applied_field r f ≡ stored_field f (4 * r.head.column) (4 * r.head.row) 4 4 (pos 0) (pos 0)
-unfolding applied_field if◌then◌else◌
+unfolding applied_field when◌then◌else◌
 skip-field r f e = rw (eq-eqb r.head.mode 0 e)
 
 pub coded-field : (r : Record) (f : Field) → r.head.mode ≢ 0 → applied_field r f ≡ stored_up_to (num_motion_vectors r.head.mode) (call_of r) r.vectors f
-unfolding applied_field if◌then◌else◌
+unfolding applied_field when◌then◌else◌
 coded-field r f e = rw (ne_eqb r.head.mode 0 e)
 
 -- a skip, by its place

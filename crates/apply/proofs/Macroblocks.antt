@@ -6,7 +6,7 @@ use mathlib.Core.List.{List}
 use Prim.Native.Nat.{ℕ, ◌*◌, ◌≤◌, ◌<◌}
 use native.Mathlib.Omega.{arith}
 use borrow.Author.Tests.{eq-eqb, ne_eqb}
-use Rattle.ints.specs.Z.{if◌then◌else◌}
+use Rattle.ints.specs.Z.{when◌then◌else◌}
 use Rattle.picture.specs.Picture.{copied}
 use Rattle.picture.specs.InnerPicture.{Within}
 use Rattle.vectors.specs.Modes.{num_motion_vectors}
@@ -19,19 +19,19 @@ use Rattle.apply.specs.Apply.{applied_luma, applied_chroma}
 
 module _ (cols rows : ℕ) (ref : List ℕ) (r : Record) (pic : List ℕ) where
   pub skip-luma : r.head.mode ≡ 0 → applied_luma cols rows ref r pic ≡ copied pic (16 * cols) (16 * r.head.column) (16 * r.head.row) 16 16 ref
-  unfolding applied_luma if◌then◌else◌
+  unfolding applied_luma when◌then◌else◌
   skip-luma e = rw (eq-eqb r.head.mode 0 e)
 
   pub coded-luma : r.head.mode ≢ 0 → applied_luma cols rows ref r pic ≡ luma_up_to 16 cols r.head r.levels (moved_up_to (num_motion_vectors r.head.mode) 1 cols rows ref (call_of r) r.vectors pic)
-  unfolding applied_luma if◌then◌else◌
+  unfolding applied_luma when◌then◌else◌
   coded-luma e = rw (ne_eqb r.head.mode 0 e)
 
   pub skip-chroma : (plane : ℕ) → r.head.mode ≡ 0 → applied_chroma plane cols rows ref r pic ≡ copied pic (8 * cols) (8 * r.head.column) (8 * r.head.row) 8 8 ref
-  unfolding applied_chroma if◌then◌else◌
+  unfolding applied_chroma when◌then◌else◌
   skip-chroma plane e = rw (eq-eqb r.head.mode 0 e)
 
   pub coded-chroma : (plane : ℕ) → r.head.mode ≢ 0 → applied_chroma plane cols rows ref r pic ≡ chroma_added plane cols r.head r.levels (moved_up_to (num_motion_vectors r.head.mode) 2 cols rows ref (call_of r) r.vectors pic)
-  unfolding applied_chroma if◌then◌else◌
+  unfolding applied_chroma when◌then◌else◌
   coded-chroma plane e = rw (ne_eqb r.head.mode 0 e)
 
 -- a record's place

@@ -10,7 +10,7 @@ use lib.Dec.{eqb, lit<, eqb→eq}
 use lib.IntN.{ℤ, pos, ◌*ℤ◌}
 use lib.ListN.{get_or, take, drop, get_or-replicate}
 use lib.Seq.{get_or-take, get_or-drop}
-use Rattle.ints.specs.Z.{if◌then◌else◌, sat_z}
+use Rattle.ints.specs.Z.{when◌then◌else◌, sat_z}
 use Rattle.picture.specs.Painted.{Inside}
 use Rattle.transform.specs.Tables.{dequant_coeff, chroma_coeff}
 use Rattle.transform.specs.Residual.{placed, scaled, weighed, rows_of, columns_of, rounded, residual}
@@ -54,7 +54,7 @@ cell-of n q b h k e =
 module _ (cols : ℕ) (h : Head) (levels : List ℤ) (pic : List ℕ) where
   one_block : (n q b x y : ℕ) (t : Bool) → q < 4 → b < 4 → n ≡ 4 * q + b → quadrant_coded h.pattern q ≡ t
       → x ≡ 16 * h.column + 8 * (q % 2) + 4 * (b % 2) → y ≡ 16 * h.row + 8 * (q / 2) + 4 * (b / 2)
-      → luma_up_to (suc n) cols h levels pic ≡ (if t then added (luma_up_to n cols h levels pic) (16 * cols) x y (luma_residual h.quantiser levels (64 * q + 16 * b)) else luma_up_to n cols h levels pic)
+      → luma_up_to (suc n) cols h levels pic ≡ (when t then added (luma_up_to n cols h levels pic) (16 * cols) x y (luma_residual h.quantiser levels (64 * q + 16 * b)) else luma_up_to n cols h levels pic)
   unfolding luma_up_to luma_residual
   one_block n q b x y t hq hb e coded ex ey =
       let l : n < 16 = omega arith in
@@ -64,13 +64,13 @@ module _ (cols : ℕ) (h : Head) (levels : List ℤ) (pic : List ℕ) where
       let xs : 16 * h.column + 4 * (cell_of_block n % 4) ≡ x = omega (arith, c.0) in
       let ys : 16 * h.row + 4 * (cell_of_block n / 4) ≡ y = omega (arith, c.1) in
       let from : item_place n ≡ 64 * q + 16 * b = (is-luma n l).place ∙ omega arith in
-      (λ i. if tested i then added (luma_up_to n cols h levels pic) (16 * cols) (xs i) (ys i) (residual (dequant_coeff h.quantiser) (pos 0) (placed levels (from i))) else luma_up_to n cols h levels pic)
+      (λ i. when tested i then added (luma_up_to n cols h levels pic) (16 * cols) (xs i) (ys i) (residual (dequant_coeff h.quantiser) (pos 0) (placed levels (from i))) else luma_up_to n cols h levels pic)
 
   -- the four blocks of a quadrant
   four-blocks : (n q : ℕ) (t : Bool) → q < 4 → n ≡ 4 * q → quadrant_coded h.pattern q ≡ t
       → luma_up_to (suc (suc (suc (suc n)))) cols h levels pic
-      ≡ (if t then added_four (luma_up_to n cols h levels pic) (16 * cols) (16 * h.column + 8 * (q % 2)) (16 * h.row + 8 * (q / 2)) (λ b. luma_residual h.quantiser levels (64 * q + 16 * b)) else luma_up_to n cols h levels pic)
-  unfolding if◌then◌else◌
+      ≡ (when t then added_four (luma_up_to n cols h levels pic) (16 * cols) (16 * h.column + 8 * (q % 2)) (16 * h.row + 8 * (q / 2)) (λ b. luma_residual h.quantiser levels (64 * q + 16 * b)) else luma_up_to n cols h levels pic)
+  unfolding when◌then◌else◌
   four-blocks n q true hq e coded =
       four-added (λ b. luma_residual h.quantiser levels (64 * q + 16 * b)) (16 * cols) (16 * h.column + 8 * (q % 2)) (16 * h.row + 8 * (q / 2)) (luma_up_to n cols h levels pic)
       (one_block n q 0 (16 * h.column + 8 * (q % 2)) (16 * h.row + 8 * (q / 2)) true hq (lit< tt) (omega arith) coded (omega arith) (omega arith))

@@ -11,7 +11,7 @@ use borrow.Author.Tests.{eq-eqb, eqb-true, eqb-false, ltb-true, lt-ltb, le-ltb}
 use lib.Dec.{eqb, ltb}
 use lib.IntN.{ℤ, pos}
 use lib.ListN.{length, get_or}
-use Rattle.ints.specs.Z.{if◌then◌else◌}
+use Rattle.ints.specs.Z.{when◌then◌else◌}
 use Rattle.picture.specs.Painted.{within, inside, painted}
 use Rattle.picture.specs.Picture.{always, filled}
 use Rattle.picture.proofs.Laws.{each_at_lem, each-is, painted-length, both_true, within-true, within_in}
@@ -89,10 +89,10 @@ pair-test x w j =
     (λ t. let b = within-true x w (j / 2) t in within_in (2 * x) (2 * w) j (omega arith) (omega arith))
 
 pair-number : (vs : List ℤ) (o j : ℕ) → pair_of (vector_x vs o) (vector_y vs o) 0 j ≡ get_or vs (2 * o + j % 2) (pos 0)
-unfolding pair_of if◌then◌else◌
+unfolding pair_of when◌then◌else◌
 pair-number vs o j = go (j % 2) (omega arith)
   where
-    go : (m : ℕ) → m < 2 → (if eqb m 0 then vector_x vs o else vector_y vs o) ≡ get_or vs (2 * o + m) (pos 0)
+    go : (m : ℕ) → m < 2 → (when eqb m 0 then vector_x vs o else vector_y vs o) ≡ get_or vs (2 * o + m) (pos 0)
     go zero h = let e : 2 * o + 0 ≡ 2 * o = omega arith in rw e refl
     go (suc zero) h = refl
     go (suc (suc m)) h = absurd (omega arith)

@@ -1,7 +1,7 @@
 -- What a record does to the planes, the vectors and the marks.
 -- Assumes nothing.
 use Rattle.std.specs.Prelude.{List, ℕ, zero, suc, ◌*◌, eqb, ℤ, pos}
-use Rattle.ints.specs.Z.{if◌then◌else◌}
+use Rattle.ints.specs.Z.{when◌then◌else◌}
 use Rattle.picture.specs.Picture.{copied}
 use Rattle.vectors.specs.Modes.{num_motion_vectors}
 use Rattle.picture.specs.Field.{Field}
@@ -22,18 +22,18 @@ stored_up_to (suc n) call vs f = stored_at call (stored_up_to n call vs f) n (ve
 
 unfoldable pub applied_luma : ℕ → ℕ → List ℕ → Record → List ℕ → List ℕ
 applied_luma cols rows ref r pic =
-    if eqb r.head.mode 0
+    when eqb r.head.mode 0
     then copied pic (16 * cols) (16 * r.head.column) (16 * r.head.row) 16 16 ref
     else luma_up_to 16 cols r.head r.levels (moved_up_to (num_motion_vectors r.head.mode) 1 cols rows ref (call_of r) r.vectors pic)
 
 unfoldable pub applied_chroma : ℕ → ℕ → ℕ → List ℕ → Record → List ℕ → List ℕ
 applied_chroma plane cols rows ref r pic =
-    if eqb r.head.mode 0
+    when eqb r.head.mode 0
     then copied pic (8 * cols) (8 * r.head.column) (8 * r.head.row) 8 8 ref
     else chroma_added plane cols r.head r.levels (moved_up_to (num_motion_vectors r.head.mode) 2 cols rows ref (call_of r) r.vectors pic)
 
 unfoldable pub applied_field : Record → Field → Field
 applied_field r f =
-    if eqb r.head.mode 0
+    when eqb r.head.mode 0
     then stored_field f (4 * r.head.column) (4 * r.head.row) 4 4 (pos 0) (pos 0)
     else stored_up_to (num_motion_vectors r.head.mode) (call_of r) r.vectors f

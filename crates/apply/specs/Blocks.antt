@@ -1,7 +1,7 @@
 -- The residual of a macroblock's blocks, one after another, in one plane.
 -- Assumes nothing.
 use Rattle.std.specs.Prelude.{List, [], ◌∷◌, ℕ, zero, suc, ◌+◌, ◌*◌, ◌/◌, ◌%◌, ltb, ℤ, pos, get_or}
-use Rattle.ints.specs.Z.{if◌then◌else◌}
+use Rattle.ints.specs.Z.{when◌then◌else◌}
 use Rattle.transform.specs.Tables.{dequant_coeff, chroma_coeff}
 use Rattle.transform.specs.Residual.{placed, residual}
 use Rattle.transform.specs.ChromaDc.{chroma_dc}
@@ -19,7 +19,7 @@ cell_of_block n = get_or (0 ∷ 1 ∷ 4 ∷ 5 ∷ 2 ∷ 3 ∷ 6 ∷ 7 ∷ 8 ∷ 
 unfoldable pub luma_up_to : ℕ → ℕ → Head → List ℤ → List ℕ → List ℕ
 luma_up_to zero cols h levels pic = pic
 luma_up_to (suc n) cols h levels pic =
-    if item_coded h.pattern n
+    when item_coded h.pattern n
     then added (luma_up_to n cols h levels pic) (16 * cols) (16 * h.column + 4 * (cell_of_block n % 4)) (16 * h.row + 4 * (cell_of_block n / 4))
     (residual (dequant_coeff h.quantiser) (pos 0) (placed levels (item_place n)))
     else luma_up_to n cols h levels pic
@@ -38,4 +38,4 @@ chroma_up_to (suc n) plane cols h levels pic =
 
 -- class 0 has no chroma residual
 unfoldable pub chroma_added : ℕ → ℕ → Head → List ℤ → List ℕ → List ℕ
-chroma_added plane cols h levels pic = if ltb 0 (class_of h.pattern) then chroma_up_to 4 plane cols h levels pic else pic
+chroma_added plane cols h levels pic = when ltb 0 (class_of h.pattern) then chroma_up_to 4 plane cols h levels pic else pic

@@ -1,7 +1,7 @@
 -- The residual of four blocks at once, in a square of 8 × 8: contracts of inner functions. proofs/Residuals.antt ties them to specs/Blocks.antt.
 -- Assumes nothing.
 use Rattle.std.specs.Prelude.{List, ℕ, ◌+◌, ◌*◌, ◌/◌, ◌%◌, ℤ, pos, get_or}
-use Rattle.ints.specs.Z.{if◌then◌else◌}
+use Rattle.ints.specs.Z.{when◌then◌else◌}
 use Rattle.transform.specs.Tables.{chroma_coeff}
 use Rattle.transform.specs.InnerResidual.{luma_residual, chroma_residual}
 use Rattle.transform.specs.ChromaDc.{chroma_dc}
@@ -12,7 +12,7 @@ use Rattle.record.specs.declared.Head.{Head}
 -- luma quadrant q, where it is coded
 unfoldable pub quadrant_added : ℕ → ℕ → Head → List ℤ → List ℕ → List ℕ
 quadrant_added q cols h levels pic =
-    if quadrant_coded h.pattern q
+    when quadrant_coded h.pattern q
     then added_four pic (16 * cols) (16 * h.column + 8 * (q % 2)) (16 * h.row + 8 * (q / 2)) (λ b. luma_residual h.quantiser levels (64 * q + 16 * b))
     else pic
 

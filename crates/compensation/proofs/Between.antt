@@ -10,7 +10,7 @@ use lib.Dec.{eqb, ltb}
 use lib.IntN.{ℤ, pos, ◌+ℤ◌}
 use lib.ListN.{length, get_or}
 use Rattle.picture.proofs.Laws.{painted_same}
-use Rattle.ints.specs.Z.{if◌then◌else◌, floor_z, mod_z}
+use Rattle.ints.specs.Z.{when◌then◌else◌, floor_z, mod_z}
 use Rattle.compensation.specs.Formula.{mean, third, along, corner, third2d, formula}
 use Rattle.compensation.specs.Sample.{tap, sample_at, block_sample}
 use Rattle.state.specs.Questions.{sides_fit}
@@ -22,8 +22,8 @@ pub record Between (lo hi v : ℕ) : Type 0 where
   pub high : v ≤ hi
 
 module _ {lo hi : ℕ} where
-  either : (t : Bool) {a b : ℕ} → Between lo hi a → Between lo hi b → Between lo hi (if t then a else b)
-  unfolding if◌then◌else◌
+  either : (t : Bool) {a b : ℕ} → Between lo hi a → Between lo hi b → Between lo hi (when t then a else b)
+  unfolding when◌then◌else◌
   either true p q = p
   either false p q = q
 
@@ -79,11 +79,11 @@ sample-taps plane width height p q = formula-taps (mod_z p 6) (mod_z q 6) _ _ _ 
 -- ---- what an accepted call leaves: sample c of row r, and what a refused one leaves
 module _ (out plane : List ℕ) (width height w h : ℕ) (x y vx vy : ℤ) where
   pub block_at : sides_fit 65536 width height (length plane) ≡ true → sides_fit 16 w h (length out) ≡ true → (r c : ℕ) → r < h → c < w → get_or (block_out out plane width height x y w h vx vy) (r * w + c) 0 ≡ block_sample plane width height x y vx vy r c
-  unfolding block_out if◌then◌else◌
+  unfolding block_out when◌then◌else◌
   block_at p s r c lr lc =
       let q = spans w h (length out) s in
       rw (p, s) (simp (zero-add, add-zero) at (painted_same (block_sample plane width height x y vx vy) out r c 0 (block_inside q.0 q.1) lr lc))
 
   pub block_refused : (sides_fit 65536 width height (length plane) && sides_fit 16 w h (length out)) ≡ false → block_out out plane width height x y w h vx vy ≡ out
-  unfolding block_out if◌then◌else◌
+  unfolding block_out when◌then◌else◌
   block_refused e = rw e

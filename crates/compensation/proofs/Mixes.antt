@@ -5,7 +5,7 @@ use mathlib.Core.List.{List}
 use Prim.Native.Nat.{ℕ, zero, suc, ◌+◌, ◌*◌, ◌≤◌, ◌<◌}
 use native.Mathlib.Nat.{add_assoc}
 use native.Mathlib.Omega.{arith}
-use Rattle.ints.specs.Z.{if◌then◌else◌}
+use Rattle.ints.specs.Z.{when◌then◌else◌}
 use Rattle.picture.specs.Painted.{painted}
 use Rattle.picture.proofs.Laws.{painted-values}
 use Rattle.compensation.specs.Formula.{mean, third, along, third2d, formula}
@@ -72,12 +72,12 @@ phases P low high a b c d (suc (suc (suc (suc (suc zero))))) h = high d
 phases P low high a b c d (suc (suc (suc (suc (suc (suc f)))))) h = absurd (omega arith)
 
 by_row : (below px : ℕ) → Said below px 0 → Said below px 1 → Said below px 3 → Said below px 4 → (py : ℕ) → py < 6 → Said below px py
-unfolding formula along third2d mix_said mix_code way if◌then◌else◌
+unfolding formula along third2d mix_said mix_code way when◌then◌else◌
 by_row below px = phases (Said below px) (said-as below refl (λ a b c d. refl)) (said-as below refl (λ a b c d. refl))
 
 -- the code of two phases says their mix
 pub said-for : (below px : ℕ) → px < 6 → (py : ℕ) → py < 6 → Said below px py
-unfolding formula along third2d weighed raised mixed_taps mix_said mix_code mixes way if◌then◌else◌
+unfolding formula along third2d weighed raised mixed_taps mix_said mix_code mixes way when◌then◌else◌
 said-for below =
     phases (λ px. (py : ℕ) → py < 6 → Said below px py)
     (λ m py h. said-as below refl (λ a b c d. refl) (m py h))

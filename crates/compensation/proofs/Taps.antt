@@ -14,7 +14,7 @@ use lib.ListN.{length, get_or, replicate}
 use Rattle.picture.specs.Painted.{painted}
 use Rattle.picture.specs.InnerRows.{row}
 use Rattle.picture.proofs.Laws.{more, row_same, painted-values, both_true}
-use Rattle.ints.specs.Z.{if◌then◌else◌, clamp_z, floor_z, mod_z}
+use Rattle.ints.specs.Z.{when◌then◌else◌, clamp_z, floor_z, mod_z}
 use mir.Syntax.{w64}
 use mir.Facts.{to_z-of_z}
 use Rattle.ints.proofs.Fits.{read, sub-ind, clamp-ind}
@@ -39,7 +39,7 @@ module _ (n : ℕ) where
       (λ e f. omega (arith, z-rules))
 
   nearest-neg : (a : ℕ) → nearest n (negsuc a) ≡ 0
-  unfolding nearest clamp_z if◌then◌else◌
+  unfolding nearest clamp_z when◌then◌else◌
   nearest-neg a = refl
 
   origin-pos : (a : ℕ) → origin_of n (pos a) ≡ min a (n - 1) + 17
@@ -117,15 +117,15 @@ placed-block plane width height p stride dx dy w h l s = painted-values stride d
 
 -- ---- whole samples alone read one tap each
 pub extra-none : extra 0 0 ≡ 0
-unfolding extra if◌then◌else◌
+unfolding extra when◌then◌else◌
 extra-none = refl
 
 pub extra-down : (py : ℕ) → (py ≡ 0 → ⊥) → extra 0 py ≡ 1
-unfolding extra if◌then◌else◌
+unfolding extra when◌then◌else◌
 extra-down py h = rw (ne_eqb py 0 h)
 
 pub extra-across : (px py : ℕ) → (px ≡ 0 → ⊥) → extra px py ≡ 1
-unfolding extra if◌then◌else◌
+unfolding extra when◌then◌else◌
 extra-across px py h = rw (ne_eqb px 0 h)
 
 extra-or : (px py : ℕ) → ((px ≡ 0) × (py ≡ 0)) ⊎ (extra px py ≡ 1)
@@ -199,7 +199,7 @@ module _ (plane : List ℕ) (width height a b : ℕ) where
 
   -- no phase: one tap a sample
   inside-whole : (r c : ℕ) → b + r < height → a + c < width → four_block (formula 0 0) plane width (b * width + a) r c ≡ window_block (formula 0 0) plane width height (a + 17) (b + 17) r c
-  unfolding four_block four_row four_at window_block formula along if◌then◌else◌
+  unfolding four_block four_row four_at window_block formula along when◌then◌else◌
   inside-whole r c lr lc = inside-tap r c lr lc
 
   inside-sample : (px py r c w h : ℕ) → b + (h + extra px py) ≤ height → a + (w + extra px py) ≤ width → r < h → c < w

@@ -1,7 +1,7 @@
 -- The compensated block: what is asked of it, and what it leaves.
 -- Assumes nothing.
 use Rattle.std.specs.Prelude.{◌&&◌, List, ℕ, ℤ, length}
-use Rattle.ints.specs.Z.{if◌then◌else◌, toward_zero}
+use Rattle.ints.specs.Z.{when◌then◌else◌, toward_zero}
 use Rattle.refusal.specs.declared.Refusal.TheVariants.{StateLength, CallRange}
 use Rattle.picture.specs.Painted.{painted}
 use Rattle.state.specs.Questions.{sides_fit}
@@ -12,12 +12,12 @@ use Rattle.compensation.specs.declared.svq3_mc.BlockAnswer.TheVariants.{Done, Re
 -- a plane of at most 65,536 a side: else 2; spans 1 to 16 and an output of just that size: else 5
 unfoldable pub block_answer : ℕ → ℕ → ℕ → ℕ → ℕ → ℕ → BlockAnswer
 block_answer size width height w h room =
-    if sides_fit 65536 width height size then (if sides_fit 16 w h room then Done else Refused CallRange) else Refused StateLength
+    when sides_fit 65536 width height size then (when sides_fit 16 w h room then Done else Refused CallRange) else Refused StateLength
 
 -- the output afterwards: on refusal as it was
 unfoldable pub block_out : List ℕ → List ℕ → ℕ → ℕ → ℤ → ℤ → ℕ → ℕ → ℤ → ℤ → List ℕ
 block_out out plane width height x y w h vx vy =
-    if sides_fit 65536 width height (length plane) && sides_fit 16 w h (length out)
+    when sides_fit 65536 width height (length plane) && sides_fit 16 w h (length out)
     then painted w 0 0 w h (block_sample plane width height x y vx vy) out
     else out
 

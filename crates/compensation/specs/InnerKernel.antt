@@ -2,7 +2,7 @@
 -- The rows of a source are `stride` apart; the taps of place i are i, i + u, i + v and i + u + v.
 -- Assumes nothing.
 use Rattle.std.specs.Prelude.{◌≡◌, List, [], ◌∷◌, ℕ, ◌+◌, ◌-◌, ◌*◌, ◌/◌, ◌%◌, ◌^◌, ◌≤◌, ◌<◌, min, ◌&&◌, eqb, ℤ, pos, negsuc, nat_abs, ◌+ℤ◌, get_or}
-use Rattle.ints.specs.Z.{if◌then◌else◌, clamp_z}
+use Rattle.ints.specs.Z.{when◌then◌else◌, clamp_z}
 use Rattle.picture.specs.InnerRows.{run}
 use Rattle.compensation.specs.Formula.{formula}
 use Rattle.compensation.specs.declared.kernel.Mix.{Mix}
@@ -57,8 +57,8 @@ mix_code px py = get_or mixes (way py) 0 / 2 ^ (16 * way px) % 65536
 unfoldable pub mix_said : ℕ → ℕ → ℕ → Mix
 mix_said below py code =
     record {
-      beside = if eqb py 3 then below else 1;
-      second = if eqb py 3 then 1 else below;
+      beside = when eqb py 3 then below else 1;
+      second = when eqb py 3 then 1 else below;
       means = code / 32768;
       wa = code % 16;
       wb = code / 16 % 16;
@@ -131,4 +131,4 @@ window_block f plane width height bx by r c =
 
 -- how many taps past its samples a block reads, each way
 unfoldable pub extra : ℕ → ℕ → ℕ
-extra px py = if eqb px 0 && eqb py 0 then 0 else 1
+extra px py = when eqb px 0 && eqb py 0 then 0 else 1

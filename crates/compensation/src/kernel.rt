@@ -1,6 +1,6 @@
 // The sample loops, row by row. The phase is chosen outside them, and every tap lies in the source: no branch and no clamp inside.
 ghost use Rattle.std.specs.Prelude.{◌≡◌, ◌+◌, ◌*◌, ◌-◌, ◌<◌, ◌≤◌, length, get_or};
-ghost use Rattle.ints.specs.Z.{if◌then◌else◌};
+ghost use Rattle.ints.specs.Z.{when◌then◌else◌};
 ghost use Rattle.picture.specs.InnerBlock.{BlockIn, block_painted};
 ghost use Rattle.picture.specs.InnerRows.{row};
 ghost use Rattle.compensation.specs.Formula.{formula};
@@ -120,7 +120,7 @@ fn mix_code(px: u32, py: u32) -> u32
 
 // A choice that needs no branch.
 fn pick(t: bool, a: usize, b: usize) -> usize
-    ensures { result ≡ (if t then a else b) }
+    ensures { result ≡ (when t then a else b) }
 {
     if t { a } else { b }
 }

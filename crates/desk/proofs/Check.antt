@@ -6,7 +6,7 @@ use mathlib.Core.List.{List, [], ◌∷◌}
 use Prim.Native.Nat.{ℕ, zero, suc, ◌≤◌}
 use native.Mathlib.Omega.{arith}
 use lib.ListN.{length, drop}
-use Rattle.ints.specs.Z.{if◌then◌else◌}
+use Rattle.ints.specs.Z.{when◌then◌else◌}
 use Rattle.refusal.specs.Got.{Got, got, refused, and_then, after, map_got}
 use Rattle.refusal.specs.declared.Refusal.{Refusal}
 use Rattle.refusal.specs.declared.Refusal.TheVariants.{GridSize}
@@ -43,10 +43,10 @@ apart : {A : Type 0} {why : Refusal} {n : ℕ} → Records n ≡ Refused why →
 apart e = absurd (let z : ◌≡◌ {A = ℕ} 0 1 = cc in omega arith)
 
 pub few-records : (cols rows : ℕ) (bytes : List ℕ) {n : ℕ} → Records n ≡ checked cols rows bytes → n ≤ length bytes
-unfolding checked records records_in if◌then◌else◌
+unfolding checked records records_in when◌then◌else◌
 few-records cols rows bytes {n} e = go (grid_right cols rows) (records cols rows bytes) (few (parse_record cols rows) (length bytes) bytes) e
   where
-    go : (right : Bool) (g : Got (List Record)) → Few (length bytes) g → Records n ≡ (if right then check_answer g else Refused GridSize) → n ≤ length bytes
+    go : (right : Bool) (g : Got (List Record)) → Few (length bytes) g → Records n ≡ (when right then check_answer g else Refused GridSize) → n ≤ length bytes
     go true (got rs k) h x = let m : n ≡ length rs = cc in omega arith
     go true (refused why) h x = apart x
     go false g h x = apart x

@@ -7,7 +7,7 @@ use borrow.Author.Tests.{lt-ltb, le-ltb}
 use lib.IntN.{ℤ}
 use lib.ListN.{length}
 use lib.Seq.{sets}
-use Rattle.ints.specs.Z.{if◌then◌else◌}
+use Rattle.ints.specs.Z.{when◌then◌else◌}
 use Rattle.state.specs.declared.Call.{Call}
 use Rattle.state.specs.State.{State}
 use Rattle.macroblock.specs.Decode.{decoded}
@@ -23,11 +23,11 @@ use Rattle.desk.specs.Counts.{mb_counts, run_counts, replay_counts}
 use Rattle.desk.specs.Entries.{Slices, Ended, slices_of, ended, unless_short, mb_telling, run_telling, replay_telling, mb_ended, run_ended, replay_ended}
 
 too_short : (n : ℕ) (s : Slices) (done : Ended) → length s.counts < n → ended output_room s ≡ unless_short n s done
-unfolding if◌then◌else◌
+unfolding when◌then◌else◌
 too_short n s done h = rw (lt-ltb _ _ h)
 
 long-enough : (n : ℕ) (s : Slices) (done : Ended) → n ≤ length s.counts → done ≡ unless_short n s done
-unfolding if◌then◌else◌
+unfolding when◌then◌else◌
 long-enough n s done h = rw (le-ltb _ _ h)
 
 -- the state that the slices make

@@ -2,7 +2,7 @@
 -- Assumes nothing.
 use Rattle.std.specs.Prelude.{List, ℕ, ltb, ℤ, length}
 use Rattle.std.proofs.lemmas.List.Edits.{sets}
-use Rattle.ints.specs.Z.{if◌then◌else◌}
+use Rattle.ints.specs.Z.{when◌then◌else◌}
 use Rattle.state.specs.declared.Call.{Call}
 use Rattle.state.specs.State.{State}
 use Rattle.macroblock.specs.Decode.{Outcome, decoded}
@@ -49,7 +49,7 @@ telling code s transcript counts written = ended code (slices_of s.y s.cb s.cr s
 
 -- fewer counts than n: nothing is done
 abbrev pub unless_short : ℕ → Slices → Ended → Ended
-unless_short n s done = if ltb (length s.counts) n then ended output_room s else done
+unless_short n s done = when ltb (length s.counts) n then ended output_room s else done
 
 abbrev pub mb_telling : ℕ → ℕ → ℕ → List ℕ → Outcome → Ended
 mb_telling place quantiser fill counts o = telling (mb_code o.answer) o.state o.transcript counts (mb_counts o.answer place quantiser fill)

@@ -2,7 +2,7 @@
 -- A lemma for each form of a number says what its parts may be, and a search goes down the form to the parameters. In a proof:
 --     search signed depth 20            the needs: a signed sum, product, quotient, shift, negation or cast fits
 --     fits (search ranges depth 20)     a long sum whose parameters are bound by `let record { a = a; .. } = c.fits in`
---     search branches                   a return under tests: the test's outcome chooses the branch of `if◌then◌else◌`
+--     search branches                   a return under tests: the test's outcome chooses the branch of `when◌then◌else◌`
 --     search signed fits 20000 depth 30 where "its count of 1000 was spent"
 -- A bound that neither a type nor a test gives goes in by `let h = .. in`, as `h : mag z < m`, `nat_abs z ≤ m`, `a < m` or `z ≡ x`. In a product the literal stands first: `6 * x`.
 -- Assumes nothing.
@@ -18,7 +18,7 @@ use lib.Signed.{mag, lt_z, le_z, ◌<ℤ◌, ◌≤ℤ◌, lt_z_yes, lt_z_no, le
 use mir.Syntax.{Width, w8, w16, w32, w64}
 use mir.Val.{SFits, Fits, bits, hbits, to_z, of_z}
 use mir.Facts.{to_z-of_z, to_z_pos, sfits_to_z}
-use Rattle.ints.specs.Z.{if◌then◌else◌, clamp_z, sat_z, min_z, max_z, median_z, floor_z, least_i32, most_i32}
+use Rattle.ints.specs.Z.{when◌then◌else◌, clamp_z, sat_z, min_z, max_z, median_z, floor_z, least_i32, most_i32}
 
 -- the difference of two naturals by cases of its sign
 pub sub-ind : (P : ℤ → Type 0) (a b : ℕ) → ((k : ℕ) → a + suc k ≡ b → P (negsuc k)) → ((k : ℕ) → b + k ≡ a → P (pos k)) → P (sub_ℕ a b)
@@ -256,17 +256,17 @@ module _ (w : Width) (x y : ℤ) (t : Bool) where
 pub fits-plain : (w w' : Width) (z : ℤ) → SFits w' (to_z w (of_z w z)) → SFits w z → SFits w' z
 fits-plain w w' z h f = simp to_z-of_z at h
 
-pub if_yes : {A : Type 0} (t : Bool) (x y : A) → t ≡ true → (if t then x else y) ≡ x
-unfolding if◌then◌else◌
+pub if_yes : {A : Type 0} (t : Bool) (x y : A) → t ≡ true → (when t then x else y) ≡ x
+unfolding when◌then◌else◌
 if_yes t x y e = simp e
 
-pub if_no : {A : Type 0} (t : Bool) (x y : A) → t ≡ false → (if t then x else y) ≡ y
-unfolding if◌then◌else◌
+pub if_no : {A : Type 0} (t : Bool) (x y : A) → t ≡ false → (when t then x else y) ≡ y
+unfolding when◌then◌else◌
 if_no t x y e = simp e
 
 -- ---- the definitions of specs/, by cases of their tests
-pub if-ind : {A : Type 0} (P : A → Type 0) (t : Bool) (x y : A) → (t ≡ true → P x) → (t ≡ false → P y) → P (if t then x else y)
-unfolding if◌then◌else◌
+pub if-ind : {A : Type 0} (P : A → Type 0) (t : Bool) (x y : A) → (t ≡ true → P x) → (t ≡ false → P y) → P (when t then x else y)
+unfolding when◌then◌else◌
 if-ind P true x y h k = h refl
 if-ind P false x y h k = k refl
 
@@ -275,7 +275,7 @@ unfolding clamp_z
 clamp-ind P lo hi z f g h = if-ind P (lt_z z lo) lo _ f (λ e. if-ind P (lt_z hi z) hi z (g e) (h e))
 
 -- ---- and their ranges
-pub within-if : (n : ℕ) (t : Bool) (x y : ℤ) → Within n x → Within n y → Within n (if t then x else y)
+pub within-if : (n : ℕ) (t : Bool) (x y : ℤ) → Within n x → Within n y → Within n (when t then x else y)
 within-if n t x y h k = if-ind (Within n) t x y (λ _. h) (λ _. k)
 
 pub within-min : (n : ℕ) (x y : ℤ) → Within n x → Within n y → Within n (min_z x y)

@@ -4,22 +4,22 @@ use Rattle.std.specs.Prelude.{Bool, true, false, ◌||◌, ℕ, suc, ◌-◌, �
 use Rattle.std.specs.Int.Signed.{lt_z, quot_z}
 
 -- x where the test holds, and y where not
-infixr 5 if◌then◌else◌
-unfoldable pub if◌then◌else◌ : {A : Type 0} → Bool → A → A → A
-if true then x else y = x
-if false then x else y = y
+infixr 5 when◌then◌else◌
+unfoldable pub when◌then◌else◌ : {A : Type 0} → Bool → A → A → A
+when true then x else y = x
+when false then x else y = y
 
 -- the lesser
 unfoldable pub min_z : ℤ → ℤ → ℤ
-min_z a b = if lt_z a b then a else b
+min_z a b = when lt_z a b then a else b
 
 -- the greater
 unfoldable pub max_z : ℤ → ℤ → ℤ
-max_z a b = if lt_z a b then b else a
+max_z a b = when lt_z a b then b else a
 
 -- z, held in lo to hi
 unfoldable pub clamp_z : ℤ → ℤ → ℤ → ℤ
-clamp_z lo hi z = if lt_z z lo then lo else if lt_z hi z then hi else z
+clamp_z lo hi z = when lt_z z lo then lo else when lt_z hi z then hi else z
 
 -- the middle one of three: c, held between the other two
 unfoldable pub median_z : ℤ → ℤ → ℤ → ℤ

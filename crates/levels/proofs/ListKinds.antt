@@ -6,7 +6,7 @@ use Prim.Native.Nat.{ℕ, ◌+◌, ◌-◌, ◌*◌, ◌/◌, ◌≤◌, ◌<◌
 use native.Mathlib.Omega.{arith}
 use borrow.Author.Tests.{lt-ltb, le-ltb}
 use lib.Dec.{ltb, eqb, lit<}
-use Rattle.ints.specs.Z.{if◌then◌else◌}
+use Rattle.ints.specs.Z.{when◌then◌else◌}
 use Rattle.number.proofs.Numbers.{lt-or-le}
 use Rattle.levels.specs.Book.{positions}
 use Rattle.levels.specs.Pattern.{class_of, quadrant_coded}
@@ -27,7 +27,7 @@ pub record Luma (i : ℕ) : Type 0 where
   pub coded : (pattern : ℕ) → item_coded pattern i ≡ quadrant_coded pattern (i / 4)
 
 pub is-luma : (i : ℕ) → i < 16 → Luma i
-unfolding item_book item_count item_start item_place item_coded if◌then◌else◌
+unfolding item_book item_count item_start item_place item_coded when◌then◌else◌
 is-luma i h =
     let a = lt-ltb i 16 h in
     let k : i < 18 = omega arith in
@@ -42,7 +42,7 @@ pub record Dc (i : ℕ) : Type 0 where
   pub coded : (pattern : ℕ) → item_coded pattern i ≡ ltb 0 (class_of pattern)
 
 pub is-dc : (i : ℕ) → 16 ≤ i → i < 18 → Dc i
-unfolding item_book item_count item_start item_place item_coded if◌then◌else◌
+unfolding item_book item_count item_start item_place item_coded when◌then◌else◌
 is-dc i h k =
     let a = le-ltb i 16 h in
     let b = lt-ltb i 18 k in
@@ -57,7 +57,7 @@ pub record Ac (i : ℕ) : Type 0 where
   pub coded : (pattern : ℕ) → item_coded pattern i ≡ eqb (class_of pattern) 2
 
 pub is-ac : (i : ℕ) → 18 ≤ i → Ac i
-unfolding item_book item_count item_start item_place item_coded if◌then◌else◌
+unfolding item_book item_count item_start item_place item_coded when◌then◌else◌
 is-ac i h =
     let k : 16 ≤ i = omega arith in
     let a = le-ltb i 16 k in

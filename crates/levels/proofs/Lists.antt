@@ -11,7 +11,7 @@ use lib.Dec.{eqb, leb, eqb→eq, leb→le}
 use lib.IntN.{ℤ, pos}
 use lib.ListN.{length, take, drop}
 use lib.Seq.{sets, length-sets, take-add, take_all, take-take, length-take-le}
-use Rattle.ints.specs.Z.{if◌then◌else◌}
+use Rattle.ints.specs.Z.{when◌then◌else◌}
 use Rattle.refusal.specs.Got.{Got, got}
 use Rattle.refusal.specs.Format.{Format}
 use Rattle.levels.proofs.ShortTable.{at}
@@ -26,22 +26,22 @@ right_place i = eqb (item_place (suc i)) (item_place i + item_count i)
 
 -- each list begins where the one before it ends, the first at 0, and the last ends at 392
 pub next_place : (i : ℕ) → i < 26 → item_place (suc i) ≡ item_place i + item_count i
-unfolding right_place item_place item_count item_book if◌then◌else◌
+unfolding right_place item_place item_count item_book when◌then◌else◌
 next_place i h = eqb→eq (item_place (suc i)) (item_place i + item_count i) (at right_place 26 tt i h)
 
 right_end : ℕ → Bool
 right_end i = leb (item_place i + item_count i) 392
 
 pub within : (i : ℕ) → i < 26 → item_place i + item_count i ≤ 392
-unfolding right_end item_place item_count item_book if◌then◌else◌
+unfolding right_end item_place item_count item_book when◌then◌else◌
 within i h = leb→le (item_place i + item_count i) 392 (at right_end 26 tt i h)
 
 first-place : item_place 0 ≡ 0
-unfolding item_place if◌then◌else◌
+unfolding item_place when◌then◌else◌
 first-place = refl
 
 last-place : item_place 26 ≡ 392
-unfolding item_place if◌then◌else◌
+unfolding item_place when◌then◌else◌
 last-place = refl
 
 -- among zeros

@@ -11,7 +11,7 @@ use lib.Dec.{ltb, eqb}
 use lib.IntN.{ℤ}
 use lib.ListN.{drop}
 use lib.Seq.{sets, drop-drop}
-use Rattle.ints.specs.Z.{if◌then◌else◌}
+use Rattle.ints.specs.Z.{when◌then◌else◌}
 use Rattle.refusal.specs.Got.{Got, got, refused, after, and_then, map_got}
 use Rattle.levels.specs.Book.{positions}
 use Rattle.levels.specs.Levels.{block}
@@ -66,7 +66,7 @@ write-parts {E} write pattern zero m i ls = rw (zero-add m, add-zero i)
 write-parts {E} write pattern (suc n) m i ls =
     let e : suc n + m ≡ suc (n + m) = omega arith in
     let on : i + suc n ≡ suc i + n = omega arith in
-    rw (e, on) (ap (λ (l : List E). (if item_coded pattern i then write i (item_levels ls i) else []) ++ l) (write-parts write pattern n m (suc i) ls) ∙ sym (append_assoc (if item_coded pattern i then write i (item_levels ls i) else []) (write_lists write n (suc i) pattern ls) (write_lists write m (suc i + n) pattern ls)))
+    rw (e, on) (ap (λ (l : List E). (when item_coded pattern i then write i (item_levels ls i) else []) ++ l) (write-parts write pattern n m (suc i) ls) ∙ sym (append_assoc (when item_coded pattern i then write i (item_levels ls i) else []) (write_lists write n (suc i) pattern ls) (write_lists write m (suc i + n) pattern ls)))
 
 -- ---- n lists from list i on, of one book and start, coded together or not
 pub record Side (book : ResidualBook) (start n i : ℕ) : Type 0 where

@@ -6,19 +6,19 @@ use mathlib.Core.List.{List, [], ◌++◌}
 use Prim.Native.Nat.{ℕ}
 use native.Mathlib.Omega.{arith}
 use lib.ListN.{drop}
-use Rattle.ints.specs.Z.{if◌then◌else◌}
+use Rattle.ints.specs.Z.{when◌then◌else◌}
 use Rattle.refusal.specs.Got.{Got, got, refused, after, and_then, map_got}
 use Rattle.refusal.specs.Format.{Format}
 use Rattle.refusal.specs.declared.Refusal.{Refusal}
 use Rattle.refusal.proofs.Formats.{got-value, got-count, never, pair_read, pair_fine, in-turn, renamed}
 
 -- ---- a test on a Bool
-pub when_true : {A : Type 0} (t : Bool) (x y : A) → t ≡ true → if t then x else y ≡ x
-unfolding if◌then◌else◌
+pub when_true : {A : Type 0} (t : Bool) (x y : A) → t ≡ true → when t then x else y ≡ x
+unfolding when◌then◌else◌
 when_true t x y e = rw e
 
-pub when_false : {A : Type 0} (t : Bool) (x y : A) → t ≡ false → if t then x else y ≡ y
-unfolding if◌then◌else◌
+pub when_false : {A : Type 0} (t : Bool) (x y : A) → t ≡ false → when t then x else y ≡ y
+unfolding when◌then◌else◌
 when_false t x y e = rw e
 
 pub not-both : {A : Type 0} {t : Bool} → t ≡ true → t ≡ false → A
@@ -47,13 +47,13 @@ unwritten x = record {
 -- ---- a test that does not depend on the bytes: one format or the other
 module _ {E X : Type 0} (t : Bool) {f g : List E → Got X} {wf wg : X → List E} {okf okg : X → Type 0} where
   pub chosen : (t ≡ true → Format f wf okf) → (t ≡ false → Format g wg okg)
-      → Format (λ s. if t then f s else g s) (λ x. if t then wf x else wg x) (λ x. (t ≡ true → okf x) × (t ≡ false → okg x))
+      → Format (λ s. when t then f s else g s) (λ x. when t then wf x else wg x) (λ x. (t ≡ true → okf x) × (t ≡ false → okg x))
   chosen F G = go t refl
     where
-      go : (b : Bool) → t ≡ b → Format (λ s. if t then f s else g s) (λ x. if t then wf x else wg x) (λ x. (t ≡ true → okf x) × (t ≡ false → okg x))
-      go true e = restated (F e) (λ s. if t then f s else g s) (λ x. if t then wf x else wg x) (λ x. (t ≡ true → okf x) × (t ≡ false → okg x))
+      go : (b : Bool) → t ≡ b → Format (λ s. when t then f s else g s) (λ x. when t then wf x else wg x) (λ x. (t ≡ true → okf x) × (t ≡ false → okg x))
+      go true e = restated (F e) (λ s. when t then f s else g s) (λ x. when t then wf x else wg x) (λ x. (t ≡ true → okf x) × (t ≡ false → okg x))
           (λ s. when_true t (f s) (g s) e) (λ x h. when_true t (wf x) (wg x) e) (λ x h. ((λ _. h), (λ n. not-both e n))) (λ x h. h.0 e)
-      go false e = restated (G e) (λ s. if t then f s else g s) (λ x. if t then wf x else wg x) (λ x. (t ≡ true → okf x) × (t ≡ false → okg x))
+      go false e = restated (G e) (λ s. when t then f s else g s) (λ x. when t then wf x else wg x) (λ x. (t ≡ true → okf x) × (t ≡ false → okg x))
           (λ s. when_false t (f s) (g s) e) (λ x h. when_false t (wf x) (wg x) e) (λ x h. ((λ n. not-both n e), (λ _. h))) (λ x h. h.1 e)
 
 -- nothing is read where the test fails
@@ -61,12 +61,12 @@ refuses : {E X : Type 0} (r : Refusal) (w : X → List E) → Format {E = E} {X 
 refuses r w = record { reads = λ x rest e. absurd e; came = λ s x n e. never e }
 
 pub tested : {E X : Type 0} (t : Bool) (r : Refusal) {f : List E → Got X} {wf : X → List E} {okf : X → Type 0} → (t ≡ true → Format f wf okf)
-    → Format (λ s. if t then f s else refused r) wf (λ x. (t ≡ true) × okf x)
+    → Format (λ s. when t then f s else refused r) wf (λ x. (t ≡ true) × okf x)
 tested t r {f = f} {wf = wf} {okf = okf} F = go t refl
   where
-    go : (b : Bool) → t ≡ b → Format (λ s. if t then f s else refused r) wf (λ x. (t ≡ true) × okf x)
-    go true e = restated (F e) (λ s. if t then f s else refused r) wf (λ x. (t ≡ true) × okf x) (λ s. when_true t (f s) (refused r) e) (λ x h. refl) (λ x h. (e, h)) (λ x h. h.1)
-    go false e = restated (refuses r wf) (λ s. if t then f s else refused r) wf (λ x. (t ≡ true) × okf x) (λ s. when_false t (f s) (refused r) e) (λ x h. refl) (λ x h. absurd h) (λ x h. not-both h.0 e)
+    go : (b : Bool) → t ≡ b → Format (λ s. when t then f s else refused r) wf (λ x. (t ≡ true) × okf x)
+    go true e = restated (F e) (λ s. when t then f s else refused r) wf (λ x. (t ≡ true) × okf x) (λ s. when_true t (f s) (refused r) e) (λ x h. refl) (λ x h. (e, h)) (λ x h. h.1)
+    go false e = restated (refuses r wf) (λ s. when t then f s else refused r) wf (λ x. (t ≡ true) × okf x) (λ s. when_false t (f s) (refused r) e) (λ x h. refl) (λ x h. absurd h) (λ x h. not-both h.0 e)
 
 -- ---- x is read, then z, of which x is a part
 module _ {E X Z : Type 0} {f : List E → Got X} {wf : X → List E} {okf : X → Type 0} {g : X → List E → Got Z} {wg : X → Z → List E} {okg : X → Z → Type 0}

@@ -2,7 +2,7 @@
 -- Assumes nothing.
 use Rattle.std.specs.Prelude.{◌≡◌, Bool, List, ℕ, zero, suc, ◌+◌, ℤ, drop}
 use Rattle.std.proofs.lemmas.List.Edits.{sets}
-use Rattle.ints.specs.Z.{if◌then◌else◌}
+use Rattle.ints.specs.Z.{when◌then◌else◌}
 use Rattle.refusal.specs.Got.{Got, got, refused}
 use Rattle.levels.specs.Book.{positions}
 use Rattle.levels.specs.Levels.{zeros, block}
@@ -20,7 +20,7 @@ or_stop (refused r) s stop next = stop
 unfoldable pub left_items : ℕ → ℕ → ℕ → List ℤ → List Bool → List ℤ
 left_items zero i pattern levels s = levels
 left_items (suc n) i pattern levels s =
-    if item_coded pattern i
+    when item_coded pattern i
     then or_stop (read_item i s) s (sets levels (item_place i) (zeros (item_count i))) (λ found rest. left_items n (suc i) pattern (sets levels (item_place i) found) rest)
     else left_items n (suc i) pattern levels s
 

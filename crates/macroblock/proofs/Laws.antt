@@ -7,7 +7,7 @@ use native.Mathlib.Omega.{arith}
 use borrow.Author.Tests.{eq-eqb, ne_eqb}
 use lib.IntN.{ℤ}
 use lib.ListN.{length, drop}
-use Rattle.ints.specs.Z.{if◌then◌else◌}
+use Rattle.ints.specs.Z.{when◌then◌else◌}
 use Rattle.ints.proofs.Fits.{if_no}
 use Rattle.refusal.specs.Got.{Got, got, refused}
 use Rattle.refusal.specs.declared.Refusal.{Refusal}
@@ -109,7 +109,7 @@ module _ (s : State) (call : Call) (bits : List ℕ) (place : ℕ) (transcript :
         → mv ≡ (applied_field (skip_record call.column call.row) (field_of s)).mv
         → marks ≡ (applied_field (skip_record call.column call.row) (field_of s)).marks
         → mb_left (Accepted (record { place = place; quantiser = s.quantiser; fill = filled; clipped = 0 })) (changed s s.quantiser y cb cr mv marks) bytes ≡ decoded s call bits place transcript fill
-    unfolding outcome_of applied quantiser_after skip_record read_macroblock if◌then◌else◌
+    unfolding outcome_of applied quantiser_after skip_record read_macroblock when◌then◌else◌
     skipped m filled y cb cr mv marks bytes w ey ecb ecr em ek =
         let e : found ≡ got (skip_record call.column call.row) 0 = rw (eq-eqb call.mode 0 m) in
         let p : place ≡ place + 0 = omega arith in

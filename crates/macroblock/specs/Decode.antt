@@ -2,7 +2,7 @@
 -- Assumes nothing.
 use Rattle.std.specs.Prelude.{List, ℕ, ◌+◌, ◌-◌, eqb, length, drop}
 use Rattle.std.proofs.lemmas.List.Edits.{sets}
-use Rattle.ints.specs.Z.{if◌then◌else◌}
+use Rattle.ints.specs.Z.{when◌then◌else◌}
 use Rattle.refusal.specs.Got.{Got, got, refused}
 use Rattle.bits.specs.Bits.{bit_list}
 use Rattle.state.specs.Questions.{ask_call}
@@ -19,7 +19,7 @@ use Rattle.macroblock.specs.declared.MbAnswer.TheVariants.{Accepted, Refused}
 
 -- the quantiser afterwards: a skip keeps it
 unfoldable pub quantiser_after : State → Record → ℕ
-quantiser_after s r = if eqb r.head.mode 0 then s.quantiser else r.head.quantiser
+quantiser_after s r = when eqb r.head.mode 0 then s.quantiser else r.head.quantiser
 
 -- what a record leaves
 unfoldable pub applied : State → Record → State

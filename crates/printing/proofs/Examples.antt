@@ -3,7 +3,7 @@
 use mathlib.Core.Path.{◌≡◌, refl}
 use mathlib.Core.List.{List, [], ◌∷◌, ◌++◌}
 use Prim.Native.Nat.{ℕ}
-use Rattle.ints.specs.Z.{if◌then◌else◌, floor_z, sat_z, over_z, clamp_z, min_z, max_z, median_z}
+use Rattle.ints.specs.Z.{when◌then◌else◌, floor_z, sat_z, over_z, clamp_z, min_z, max_z, median_z}
 use Rattle.bits.specs.Bits.{bit_list}
 use Rattle.bits.specs.Code.{code_from, code}
 use Rattle.bits.specs.Signed.{signed_of, signed_code}
@@ -45,12 +45,12 @@ refused15 = 114 ∷ 101 ∷ 102 ∷ 117 ∷ 115 ∷ 101 ∷ 100 ∷ 32 ∷ 49 �
 -- in the header: no input; 0 columns; a call count of 17, also where no list follows; a number that is not in its shortest form; 14 in the list: it ends inside a call
 pub refused-alone : (printed [] ≡ refused14) × (printed (0 ∷ []) ≡ refused15) × (printed (1 ∷ 1 ∷ 0 ∷ 0 ∷ 5 ∷ 17 ∷ []) ≡ refused15)
     × (printed (129 ∷ 0 ∷ []) ≡ refused14) × (printed (1 ∷ 1 ∷ 0 ∷ 0 ∷ 5 ∷ 1 ∷ 0 ∷ 0 ∷ []) ≡ refused14)
-unfolding refused14 refused15 printed header_in ranged read_number low_then if◌then◌else◌ calls_from call_in refused_line count_line line decimal digits
+unfolding refused14 refused15 printed header_in ranged read_number low_then when◌then◌else◌ calls_from call_in refused_line count_line line decimal digits
 refused-alone = (refl, refl, refl, refl, refl)
 
 -- no call; a call outside the grid
 pub no_record : (printed (1 ∷ 1 ∷ 0 ∷ 0 ∷ 5 ∷ 0 ∷ []) ≡ bits0) × (printed (1 ∷ 1 ∷ 0 ∷ 0 ∷ 5 ∷ 1 ∷ 1 ∷ 0 ∷ 1 ∷ 152 ∷ []) ≡ bits0 ++ refused5)
-unfolding bits0 refused5 printed header_in ranged read_number low_then if◌then◌else◌ calls_from call_in bits_line refused_line count_line line decimal digits start room record_lines printed_run ran ran_from ended with_call transcript_of decoded outcome_of ask_call ask_run ask_start ask_quantiser ask_place ask_rest grid_right planes_right state_right reference_there call_right place_in records records_in until_end
+unfolding bits0 refused5 printed header_in ranged read_number low_then when◌then◌else◌ calls_from call_in bits_line refused_line count_line line decimal digits start room record_lines printed_run ran ran_from ended with_call transcript_of decoded outcome_of ask_call ask_run ask_start ask_quantiser ask_place ask_rest grid_right planes_right state_right reference_there call_right place_in records records_in until_end
 no_record = (refl, refl)
 
 -- document 01's example: `00000100000c000005`, `bits 5`
@@ -58,5 +58,5 @@ unfoldable pub one : List ℕ
 one = 48 ∷ 48 ∷ 48 ∷ 48 ∷ 48 ∷ 49 ∷ 48 ∷ 48 ∷ 48 ∷ 48 ∷ 48 ∷ 99 ∷ 48 ∷ 48 ∷ 48 ∷ 48 ∷ 48 ∷ 53 ∷ 10 ∷ 98 ∷ 105 ∷ 116 ∷ 115 ∷ 32 ∷ 53 ∷ 10 ∷ []
 
 pub printed-one : printed (1 ∷ 1 ∷ 0 ∷ 0 ∷ 5 ∷ 1 ∷ 0 ∷ 0 ∷ 1 ∷ 152 ∷ []) ≡ one
-unfolding one printed header_in ranged read_number low_then if◌then◌else◌ calls_from call_in hex_digit hex_bytes hex_line bits_line count_line line decimal digits start room record_lines printed_run ran ran_from ended with_call transcript_of decoded outcome_of ask_call ask_start ask_quantiser ask_place ask_rest grid_right planes_right state_right reference_there call_right place_in records records_in until_end floor_z sat_z over_z clamp_z min_z max_z median_z bit_list code_from code signed_of signed_code groups number sent received signed_number read_signed patterns pattern quadrant_coded partition_width partition_height num_motion_vectors offset_x offset_y precision cell_at near_at left_of above_of above_left_of median_of combined predicted held_in predictor round_to_sixths convert_predictor summed scaled stored_part clipped_part no_vectors no_levels skip_record item_coded read_lists write_lists read_items signed_numbers item_bytes items_bytes rest_bytes record_bytes field read_signeds parse_items parse_residual parse_motion parse_record predictor_at moved read_vectors quantiser_in read_quantiser record_of at_first read_residual read_coded read_macroblock
+unfolding one printed header_in ranged read_number low_then when◌then◌else◌ calls_from call_in hex_digit hex_bytes hex_line bits_line count_line line decimal digits start room record_lines printed_run ran ran_from ended with_call transcript_of decoded outcome_of ask_call ask_start ask_quantiser ask_place ask_rest grid_right planes_right state_right reference_there call_right place_in records records_in until_end floor_z sat_z over_z clamp_z min_z max_z median_z bit_list code_from code signed_of signed_code groups number sent received signed_number read_signed patterns pattern quadrant_coded partition_width partition_height num_motion_vectors offset_x offset_y precision cell_at near_at left_of above_of above_left_of median_of combined predicted held_in predictor round_to_sixths convert_predictor summed scaled stored_part clipped_part no_vectors no_levels skip_record item_coded read_lists write_lists read_items signed_numbers item_bytes items_bytes rest_bytes record_bytes field read_signeds parse_items parse_residual parse_motion parse_record predictor_at moved read_vectors quantiser_in read_quantiser record_of at_first read_residual read_coded read_macroblock
 printed-one = refl

@@ -9,7 +9,7 @@ use native.Mathlib.Omega.{arith}
 use lib.Dec.{leb}
 use lib.ListN.{drop}
 use lib.Seq.{drop-drop}
-use Rattle.ints.specs.Z.{if◌then◌else◌}
+use Rattle.ints.specs.Z.{when◌then◌else◌}
 use Rattle.refusal.specs.Got.{Got, got, refused, after, and_then, map_got}
 use Rattle.refusal.specs.declared.Refusal.{Refusal}
 use Rattle.refusal.specs.declared.Refusal.TheVariants.{FieldRange}
@@ -31,7 +31,7 @@ use Rattle.printing.specs.declared.header.ListEnd.TheVariants as list
 
 -- ---- a number in a range
 module _ (at least most : ℕ) (s : List ℕ) where
-  read-on : (v n : ℕ) → read_number s ≡ got v n → ranged least most s ≡ after n (if leb least v && leb v most then got v 0 else refused FieldRange)
+  read-on : (v n : ℕ) → read_number s ≡ got v n → ranged least most s ≡ after n (when leb least v && leb v most then got v 0 else refused FieldRange)
   unfolding ranged
   read-on v n e = rw e
 

@@ -9,7 +9,7 @@ use borrow.Author.Tests.{leb-true}
 use lib.Dec.{leb}
 use lib.ListN.{take, drop, length-take}
 use lib.Seq.{take-take}
-use Rattle.ints.specs.Z.{if◌then◌else◌}
+use Rattle.ints.specs.Z.{when◌then◌else◌}
 use Rattle.refusal.specs.Got.{got, refused, and_then, map_got}
 use Rattle.refusal.specs.declared.Refusal.TheVariants.{FieldRange}
 use Rattle.refusal.proofs.Formats.{got-value, got-count, never}
@@ -28,8 +28,8 @@ use Rattle.printing.specs.declared.header.Header.{Header}
 number-local : Local read_number
 number-local = of_format number-format
 
-chosen-local : (t : Bool) (v : ℕ) → Local {E = ℕ} (λ rest. if t then got v 0 else refused FieldRange)
-unfolding if◌then◌else◌
+chosen-local : (t : Bool) (v : ℕ) → Local {E = ℕ} (λ rest. when t then got v 0 else refused FieldRange)
+unfolding when◌then◌else◌
 chosen-local true v = of-got v
 chosen-local false v = of-refused FieldRange
 
@@ -62,12 +62,12 @@ both true b e = e
 both false b e = absurd (false≢true e)
 
 ranged-most : (least most : ℕ) (s : List ℕ) (v n : ℕ) → ranged least most s ≡ got v n → v ≤ most
-unfolding ranged if◌then◌else◌
+unfolding ranged when◌then◌else◌
 ranged-most least most s v n e =
-    let b = apart (read_number s) (λ w rest. if leb least w && leb w most then got w 0 else refused FieldRange) s v n e in
+    let b = apart (read_number s) (λ w rest. when leb least w && leb w most then got w 0 else refused FieldRange) s v n e in
     go (leb least b.x && leb b.x most) b.x b.k refl b.second
   where
-    go : (t : Bool) (w k : ℕ) → (leb least w && leb w most) ≡ t → (if t then got w 0 else refused FieldRange) ≡ got v k → v ≤ most
+    go : (t : Bool) (w k : ℕ) → (leb least w && leb w most) ≡ t → (when t then got w 0 else refused FieldRange) ≡ got v k → v ≤ most
     go true w k h e = let x : w ≡ v = got-value e in omega (arith, leb-true w most (both (leb least w) (leb w most) h))
     go false w k h e = never e
 

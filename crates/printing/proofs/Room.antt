@@ -12,7 +12,7 @@ use lib.IntN.{ℤ, pos, nat_abs, ◌+ℤ◌}
 use lib.ListN.{length, drop, length-replicate}
 use lib.Seq.{sets, length-sets}
 use lib.Signed.{lt_z}
-use Rattle.ints.specs.Z.{if◌then◌else◌}
+use Rattle.ints.specs.Z.{when◌then◌else◌}
 use Rattle.refusal.specs.Got.{Got, got, refused, after, and_then, map_got}
 use Rattle.refusal.specs.declared.Refusal.{Refusal}
 use Rattle.refusal.specs.declared.Refusal.TheVariants.{GridSize, StateLength, MissingReference, ReferenceLength, CallRange, QuantiserRange, BitPlace, TranscriptRoom, Truncated, BadBitWidth, InvalidFrameCode, InvalidQuantiser, LevelPosition}
@@ -146,8 +146,8 @@ block-never i s e = go TranscriptRoom refl (block-refuses (item_book i) (item_st
     go x h long = is-ten h
     go x h (past a b) = is-thirteen h
 
-chosen : {X : Type 0} (t : Bool) (a b : Got X) → (a ≡ refused TranscriptRoom → ⊥) → (b ≡ refused TranscriptRoom → ⊥) → (if t then a else b) ≡ refused TranscriptRoom → ⊥
-unfolding if◌then◌else◌
+chosen : {X : Type 0} (t : Bool) (a b : Got X) → (a ≡ refused TranscriptRoom → ⊥) → (b ≡ refused TranscriptRoom → ⊥) → (when t then a else b) ≡ refused TranscriptRoom → ⊥
+unfolding when◌then◌else◌
 chosen true a b h k e = h e
 chosen false a b h k e = k e
 

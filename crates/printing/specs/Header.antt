@@ -1,7 +1,7 @@
 -- The printer's header: columns, rows, flags, delta-enable, quantiser and call count. Each number is judged as it is read: 14 where it is not in form, then 15 where it is out of range.
 -- Assumes nothing.
 use Rattle.std.specs.Prelude.{◌&&◌, List, [], ◌∷◌, ℕ, zero, suc, ◌≤◌, ◌/◌, ◌%◌, leb, eqb}
-use Rattle.ints.specs.Z.{if◌then◌else◌}
+use Rattle.ints.specs.Z.{when◌then◌else◌}
 use Rattle.refusal.specs.Got.{Got, got, refused, and_then, map_got}
 use Rattle.refusal.specs.declared.Refusal.TheVariants.{FieldRange}
 use Rattle.number.specs.Number.{read_number}
@@ -14,7 +14,7 @@ use Rattle.printing.specs.declared.header.ListEnd.TheVariants as list
 
 -- a number from `least` to `most`
 unfoldable pub ranged : ℕ → ℕ → List ℕ → Got ℕ
-ranged least most s = and_then (read_number s) s (λ v rest. if leb least v && leb v most then got v 0 else refused FieldRange)
+ranged least most s = and_then (read_number s) s (λ v rest. when leb least v && leb v most then got v 0 else refused FieldRange)
 
 unfoldable pub header_in : List ℕ → Got Header
 header_in s =

@@ -1,13 +1,13 @@
 -- The printer's lines, as bytes of ASCII.
 -- Assumes nothing.
 use Rattle.std.specs.Prelude.{List, [], ◌∷◌, ◌++◌, ℕ, zero, suc, ◌+◌, ◌/◌, ◌%◌, ltb}
-use Rattle.ints.specs.Z.{if◌then◌else◌}
+use Rattle.ints.specs.Z.{when◌then◌else◌}
 use Rattle.refusal.specs.Refusal.{number_of}
 use Rattle.refusal.specs.declared.Refusal.{Refusal}
 
 -- 0 to 9, then a to f
 unfoldable pub hex_digit : ℕ → ℕ
-hex_digit n = if ltb n 10 then 48 + n else 87 + n
+hex_digit n = when ltb n 10 then 48 + n else 87 + n
 
 -- two digits a byte
 unfoldable pub hex_bytes : List ℕ → List ℕ
@@ -17,7 +17,7 @@ hex_bytes (b ∷ bytes) = hex_digit (b / 16) ∷ hex_digit (b % 16) ∷ hex_byte
 -- the digits of n, highest first, after at most that many divisions by ten
 unfoldable pub digits : ℕ → ℕ → List ℕ
 digits zero n = (48 + n % 10) ∷ []
-digits (suc turns) n = if ltb n 10 then (48 + n) ∷ [] else digits turns (n / 10) ++ (48 + n % 10) ∷ []
+digits (suc turns) n = when ltb n 10 then (48 + n) ∷ [] else digits turns (n / 10) ++ (48 + n % 10) ∷ []
 
 -- n in decimal; n divisions are enough
 unfoldable pub decimal : ℕ → List ℕ

@@ -4,7 +4,7 @@ use mathlib.Core.Bool.{Bool, true, false, ◌&&◌, not}
 use mathlib.Core.List.{List}
 use Prim.Native.Nat.{ℕ, zero, suc}
 use lib.Dec.{eqb}
-use Rattle.ints.specs.Z.{if◌then◌else◌}
+use Rattle.ints.specs.Z.{when◌then◌else◌}
 use Rattle.refusal.specs.Got.{Got}
 use Rattle.refusal.proofs.Local.{Local, of_format, of-got, of-refused, then-local, map-local}
 use Rattle.bits.specs.Signed.{signed_code}
@@ -18,8 +18,8 @@ use Rattle.levels.proofs.ItemFormats.{items-format}
 use Rattle.state.specs.State.{Context}
 use Rattle.reading.specs.Read.{Moving, moved, read_vectors, quantiser_in, read_quantiser, record_of, at_first, read_residual, read_coded, read_macroblock}
 
-if-local : {E X : Type 0} {f g : List E → Got X} (t : Bool) → Local f → Local g → Local (λ s. if t then f s else g s)
-unfolding if◌then◌else◌
+if-local : {E X : Type 0} {f g : List E → Got X} (t : Bool) → Local f → Local g → Local (λ s. when t then f s else g s)
+unfolding when◌then◌else◌
 if-local true F G = F
 if-local false F G = G
 

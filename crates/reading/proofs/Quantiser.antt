@@ -12,7 +12,7 @@ use lib.IntN.{ℤ, pos, negsuc, nat_abs, ◌+ℤ◌, ◌-ℤ◌}
 use lib.Signed.{non_neg, lt_z, le_z}
 use mir.Syntax.{w32}
 use mir.Val.{Fits}
-use Rattle.ints.specs.Z.{if◌then◌else◌}
+use Rattle.ints.specs.Z.{when◌then◌else◌}
 use Rattle.ints.proofs.Fits.{if_yes, if_no}
 use Rattle.ints.proofs.Laws.{add-diff}
 use Rattle.refusal.specs.Got.{Got, got, refused, after, and_then}
@@ -41,28 +41,28 @@ second true b e = e
 second false b e = absurd (false≢true e)
 
 held : (z : ℤ) (q n : ℕ) → quantiser_in z ≡ got q n → Held z q n
-unfolding quantiser_in if◌then◌else◌
+unfolding quantiser_in when◌then◌else◌
 held (pos a) q n e = go (not (lt_z (pos a) (pos 0)) && lt_z (pos a) (pos 32)) refl e
   where
-    go : (t : Bool) → (not (lt_z (pos a) (pos 0)) && lt_z (pos a) (pos 32)) ≡ t → (if t then got a 0 else refused (InvalidQuantiser (pos a))) ≡ got q n → Held (pos a) q n
+    go : (t : Bool) → (not (lt_z (pos a) (pos 0)) && lt_z (pos a) (pos 32)) ≡ t → (when t then got a 0 else refused (InvalidQuantiser (pos a))) ≡ got q n → Held (pos a) q n
     go true h e = record { is = ap pos (got-value e); most = omega (arith, got-value e, ltb-true a 32 (second (not (lt_z (pos a) (pos 0))) (lt_z (pos a) (pos 32)) h)); none = got-count e }
     go false h e = never e
 held (negsuc a) q n e = never e
 
 module _ (delta : Bool) (q pattern after : ℕ) (s : List Bool) (n : ℕ) where
   pub quantiser-most : q ≤ 31 → read_quantiser delta q pattern s ≡ got after n → after ≤ 31
-  unfolding read_quantiser if◌then◌else◌
+  unfolding read_quantiser when◌then◌else◌
   quantiser-most h e = go (not (eqb pattern 0) && delta) e
     where
-      go : (t : Bool) → (if t then and_then (signed_code s) s (λ d rest. quantiser_in (pos q +ℤ d)) else got q 0) ≡ got after n → after ≤ 31
+      go : (t : Bool) → (when t then and_then (signed_code s) s (λ d rest. quantiser_in (pos q +ℤ d)) else got q 0) ≡ got after n → after ≤ 31
       go true e = let a = apart (signed_code s) (λ d rest. quantiser_in (pos q +ℤ d)) s after n e in (held (pos q +ℤ a.x) after a.k a.second).most
       go false e = omega (arith, got-value e)
 
   pub quantiser-took : read_quantiser delta q pattern s ≡ got after n → Took (quantiser_bits delta q pattern after) s n
-  unfolding read_quantiser quantiser_bits if◌then◌else◌
+  unfolding read_quantiser quantiser_bits when◌then◌else◌
   quantiser-took e = go (not (eqb pattern 0) && delta) e
     where
-      go : (t : Bool) → (if t then and_then (signed_code s) s (λ d rest. quantiser_in (pos q +ℤ d)) else got q 0) ≡ got after n → Took (if t then signed_bits (pos after -ℤ pos q) else []) s n
+      go : (t : Bool) → (when t then and_then (signed_code s) s (λ d rest. quantiser_in (pos q +ℤ d)) else got q 0) ≡ got after n → Took (when t then signed_bits (pos after -ℤ pos q) else []) s n
       go true e =
           let a = apart (signed_code s) (λ d rest. quantiser_in (pos q +ℤ d)) s after n e in
           let h = held (pos q +ℤ a.x) after a.k a.second in

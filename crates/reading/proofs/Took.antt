@@ -10,7 +10,7 @@ use lib.Dec.{eqb, lit≤, lit<}
 use lib.IntN.{ℤ, pos}
 use lib.ListN.{length, get_or, drop, replicate, length-drop, length-replicate, get_or-replicate}
 use lib.Seq.{ext_get_or, get_or-drop}
-use Rattle.ints.specs.Z.{if◌then◌else◌}
+use Rattle.ints.specs.Z.{when◌then◌else◌}
 use Rattle.refusal.specs.Got.{Got, got, refused, map_got}
 use Rattle.refusal.proofs.Formats.{got-value, got-count, never}
 use Rattle.refusal.proofs.Local.{apart, Took, took-none, took-format, took-then}
@@ -128,19 +128,19 @@ data Kind (c : Context) (call : Call) (s : List Bool) (r : Record) (n : ℕ) : T
   coded : (call.mode ≡ 0 → ⊥) → read_coded c call s ≡ got r n → Kind c call s r n
 
 kind : (c : Context) (call : Call) (s : List Bool) (r : Record) (n : ℕ) → read_macroblock c call s ≡ got r n → Kind c call s r n
-unfolding read_macroblock if◌then◌else◌
+unfolding read_macroblock when◌then◌else◌
 kind c call s r n e = go (eqb call.mode 0) refl e
   where
-    go : (t : Bool) → eqb call.mode 0 ≡ t → (if t then got (skip_record call.column call.row) 0 else read_coded c call s) ≡ got r n → Kind c call s r n
+    go : (t : Bool) → eqb call.mode 0 ≡ t → (when t then got (skip_record call.column call.row) 0 else read_coded c call s) ≡ got r n → Kind c call s r n
     go true h e = skipped (eqb-true call.mode 0 h) (got-value e) (got-count e)
     go false h e = coded (eqb-false call.mode 0 h) e
 
 skip-bits : (c : Context) (column row : ℕ) → bits_of c (skip_record column row) ≡ []
-unfolding bits_of if◌then◌else◌ skip_record
+unfolding bits_of when◌then◌else◌ skip_record
 skip-bits c column row = refl
 
 coded-bits-of : (c : Context) (r : Record) → (r.head.mode ≡ 0 → ⊥) → coded_bits c r ≡ bits_of c r
-unfolding bits_of if◌then◌else◌
+unfolding bits_of when◌then◌else◌
 coded-bits-of c r h = rw (ne_eqb r.head.mode 0 h)
 
 -- TOOK: where nothing was clipped, the bits taken are those of the record

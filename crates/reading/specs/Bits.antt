@@ -1,7 +1,7 @@
 -- The bits that read to a record, where no component was clipped.
 -- Assumes nothing.
 use Rattle.std.specs.Prelude.{Bool, ◌&&◌, not, List, [], ◌++◌, ℕ, zero, suc, ◌+◌, ◌*◌, eqb, ℤ, pos, ◌-ℤ◌, get_or}
-use Rattle.ints.specs.Z.{if◌then◌else◌}
+use Rattle.ints.specs.Z.{when◌then◌else◌}
 use Rattle.bits.specs.Signed.{signed_bits}
 use Rattle.levels.specs.Pattern.{pattern_bits}
 use Rattle.vectors.specs.Modes.{num_motion_vectors}
@@ -29,7 +29,7 @@ vector_bits call p (suc n) i f vs =
     vector_bits call p n (suc i) (stored_at call f i vx vy) vs
 
 unfoldable pub quantiser_bits : Bool → ℕ → ℕ → ℕ → List Bool
-quantiser_bits delta q pattern after = if not (eqb pattern 0) && delta then signed_bits (pos after -ℤ pos q) else []
+quantiser_bits delta q pattern after = when not (eqb pattern 0) && delta then signed_bits (pos after -ℤ pos q) else []
 
 -- of a record that is no skip
 unfoldable pub coded_bits : Context → Record → List Bool
@@ -42,4 +42,4 @@ coded_bits c r =
     items_bits 26 0 r.head.pattern r.levels
 
 unfoldable pub bits_of : Context → Record → List Bool
-bits_of c r = if eqb r.head.mode 0 then [] else coded_bits c r
+bits_of c r = when eqb r.head.mode 0 then [] else coded_bits c r

@@ -2,7 +2,7 @@
 -- Assumes nothing.
 use Rattle.std.specs.Prelude.{Bool, ◌&&◌, not, List, ℕ, zero, suc, ◌+◌, ◌*◌, ◌/◌, eqb, ℤ, pos, nat_abs, ◌+ℤ◌, set}
 use Rattle.std.specs.Int.Signed.{lt_z}
-use Rattle.ints.specs.Z.{if◌then◌else◌}
+use Rattle.ints.specs.Z.{when◌then◌else◌}
 use Rattle.refusal.specs.Got.{Got, got, refused, and_then, map_got}
 use Rattle.refusal.specs.declared.Refusal.TheVariants.{InvalidQuantiser}
 use Rattle.bits.specs.Code.{bit_value}
@@ -72,12 +72,12 @@ read_vectors call p (suc n) i m s =
 -- ---- the quantiser
 -- 0 to 31, else refused with its exact value
 unfoldable pub quantiser_in : ℤ → Got ℕ
-quantiser_in q = if not (lt_z q (pos 0)) && lt_z q (pos 32) then got (nat_abs q) 0 else refused (InvalidQuantiser q)
+quantiser_in q = when not (lt_z q (pos 0)) && lt_z q (pos 32) then got (nat_abs q) 0 else refused (InvalidQuantiser q)
 
 -- a delta only if the pattern is not 0 and delta-enable is on
 unfoldable pub read_quantiser : Bool → ℕ → ℕ → List Bool → Got ℕ
 read_quantiser delta q pattern s =
-    if not (eqb pattern 0) && delta then and_then (signed_code s) s (λ d rest. quantiser_in (pos q +ℤ d)) else got q 0
+    when not (eqb pattern 0) && delta then and_then (signed_code s) s (λ d rest. quantiser_in (pos q +ℤ d)) else got q 0
 
 -- ---- the macroblock
 unfoldable pub record_of : Call → Svq3MvPrecision → Moving → ℕ → ℕ → List ℤ → Record
@@ -107,4 +107,4 @@ read_coded c call s =
 
 -- a skip reads nothing
 unfoldable pub read_macroblock : Context → Call → List Bool → Got Record
-read_macroblock c call s = if eqb call.mode 0 then got (skip_record call.column call.row) 0 else read_coded c call s
+read_macroblock c call s = when eqb call.mode 0 then got (skip_record call.column call.row) 0 else read_coded c call s

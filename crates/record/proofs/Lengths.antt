@@ -9,7 +9,7 @@ use native.Mathlib.Omega.{arith}
 use lib.Dec.{eqb, lit<}
 use lib.IntN.{ℤ}
 use lib.ListN.{length, take, drop, length-append, length-take, length-drop}
-use Rattle.ints.specs.Z.{if◌then◌else◌}
+use Rattle.ints.specs.Z.{when◌then◌else◌}
 use Rattle.number.specs.Number.{number}
 use Rattle.number.specs.SignedNumber.{signed_number}
 use Rattle.number.proofs.Numbers.{lt-or-le, zero-or-more, one-group, more-groups, one_byte, number-length}
@@ -38,14 +38,14 @@ abbrev levels_of : ℕ → ℕ → ℕ
 levels_of zero i = 0
 levels_of (suc n) i = (item_count i - item_start i) + levels_of n (suc i)
 
-item-length : (pattern : ℕ) (levels : List ℤ) (i : ℕ) → length (if item_coded pattern i then item_bytes i (item_levels levels i) else []) ≤ 5 * (item_count i - item_start i)
-unfolding if◌then◌else◌ item_bytes item_levels
+item-length : (pattern : ℕ) (levels : List ℤ) (i : ℕ) → length (when item_coded pattern i then item_bytes i (item_levels levels i) else []) ≤ 5 * (item_count i - item_start i)
+unfolding when◌then◌else◌ item_bytes item_levels
 item-length pattern levels i = go (item_coded pattern i)
   where
     xs : List ℤ
     xs = take (item_count i) (drop (item_place i) levels)
 
-    go : (t : Bool) → length (if t then signed_numbers (drop (item_start i) xs) else []) ≤ 5 * (item_count i - item_start i)
+    go : (t : Bool) → length (when t then signed_numbers (drop (item_start i) xs) else []) ≤ 5 * (item_count i - item_start i)
     go true = omega (arith, signeds-length (drop (item_start i) xs), length-drop (item_start i) xs, length-take (item_count i) (drop (item_place i) levels))
     go false = omega arith
 
@@ -55,14 +55,14 @@ lists_length zero i pattern levels = omega arith
 lists_length (suc n) i pattern levels =
     omega (
       arith,
-      length-append (if item_coded pattern i then item_bytes i (item_levels levels i) else []) (write_lists item_bytes n (suc i) pattern levels),
+      length-append (when item_coded pattern i then item_bytes i (item_levels levels i) else []) (write_lists item_bytes n (suc i) pattern levels),
       item-length pattern levels i,
       lists_length n (suc i) pattern levels,
     )
 
 -- 384 levels
 items-length : (pattern : ℕ) (levels : List ℤ) → length (items_bytes 26 0 pattern levels) ≤ 1920
-unfolding items_bytes item_count item_start item_book if◌then◌else◌
+unfolding items_bytes item_count item_start item_book when◌then◌else◌
 items-length pattern levels = lists_length 26 0 pattern levels
 
 used-length : (r : Record) → r.head.mode ≤ 7 → length (signed_numbers (take (2 * num_motion_vectors r.head.mode) r.vectors)) ≤ 160
@@ -90,17 +90,17 @@ rest-length r h =
       items-length r.head.pattern r.levels,
     )
 
-record-parts : (r : Record) → length (record_bytes r) ≡ length (number r.head.column) + (length (number r.head.row) + (length (number r.head.mode) + length (if eqb r.head.mode 0 then [] else rest_bytes r)))
+record-parts : (r : Record) → length (record_bytes r) ≡ length (number r.head.column) + (length (number r.head.row) + (length (number r.head.mode) + length (when eqb r.head.mode 0 then [] else rest_bytes r)))
 unfolding record_bytes
 record-parts r = simp (append_assoc, length-append)
 
 -- AT MOST 2,089 BYTES
 pub record-length : (r : Record) → HeadRange r.head → length (record_bytes r) ≤ 2089
-unfolding if◌then◌else◌
+unfolding when◌then◌else◌
 record-length r h =
     omega (arith, record-parts r, two_bytes r.head.column h.column, two_bytes r.head.row h.row, one_byte r.head.mode (omega (arith, h.mode)), go (eqb r.head.mode 0))
   where
-    go : (t : Bool) → length (if t then [] else rest_bytes r) ≤ 2084
+    go : (t : Bool) → length (when t then [] else rest_bytes r) ≤ 2084
     go true = omega arith
     go false = rest-length r h
 

@@ -10,7 +10,7 @@ use lib.Dec.{leb, ltb, eqb, lit<}
 use lib.IntN.{ℤ}
 use lib.ListN.{take}
 use lib.Seq.{sets}
-use Rattle.ints.specs.Z.{if◌then◌else◌}
+use Rattle.ints.specs.Z.{when◌then◌else◌}
 use Rattle.refusal.specs.Got.{got, refused, map_got}
 use Rattle.refusal.specs.Format.{Format}
 use Rattle.refusal.specs.declared.Refusal.TheVariants.{FieldRange}
@@ -143,10 +143,10 @@ module _ (cols rows : ℕ) where
 
   -- mode 0, or another
   abbrev mode_bytes : ℕ → Record → List ℕ
-  mode_bytes mode r = if eqb mode 0 then [] else motion_bytes (2 * num_motion_vectors mode) r
+  mode_bytes mode r = when eqb mode 0 then [] else motion_bytes (2 * num_motion_vectors mode) r
 
   behind-mode : (column row mode : ℕ)
-      → Format (λ s. if judge column row mode then (if eqb mode 0 then got (skip_record column row) 0 else parse_motion (place_head column row mode) s) else refused FieldRange) (mode_bytes mode) (PlaceOf column row mode)
+      → Format (λ s. when judge column row mode then (when eqb mode 0 then got (skip_record column row) 0 else parse_motion (place_head column row mode) s) else refused FieldRange) (mode_bytes mode) (PlaceOf column row mode)
   behind-mode column row mode =
       restated
       (tested (judge column row mode) FieldRange

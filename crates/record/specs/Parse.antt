@@ -2,7 +2,7 @@
 -- Assumes nothing.
 use Rattle.std.specs.Prelude.{◌&&◌, List, [], ◌∷◌, ◌++◌, ℕ, zero, suc, ◌-◌, ◌*◌, eqb, leb, ltb, ℤ}
 use Rattle.std.proofs.lemmas.List.Edits.{sets}
-use Rattle.ints.specs.Z.{if◌then◌else◌}
+use Rattle.ints.specs.Z.{when◌then◌else◌}
 use Rattle.refusal.specs.Got.{Got, got, refused, and_then, map_got}
 use Rattle.refusal.specs.declared.Refusal.TheVariants.{FieldRange}
 use Rattle.number.specs.Number.{read_number}
@@ -15,7 +15,7 @@ use Rattle.record.specs.declared.Head.{Head}
 
 -- a number that is at most `most`
 unfoldable pub field : ℕ → List ℕ → Got ℕ
-field most s = and_then (read_number s) s (λ v rest. if leb v most then got v 0 else refused FieldRange)
+field most s = and_then (read_number s) s (λ v rest. when leb v most then got v 0 else refused FieldRange)
 
 -- n signed numbers
 unfoldable pub read_signeds : ℕ → List ℕ → Got (List ℤ)
@@ -51,6 +51,6 @@ parse_record cols rows s =
     and_then (read_number s) s (λ column s₁.
     and_then (read_number s₁) s₁ (λ row s₂.
     and_then (read_number s₂) s₂ (λ mode s₃.
-    if ltb column cols && ltb row rows && leb mode 7
-    then (if eqb mode 0 then got (skip_record column row) 0 else parse_motion (place_head column row mode) s₃)
+    when ltb column cols && ltb row rows && leb mode 7
+    then (when eqb mode 0 then got (skip_record column row) 0 else parse_motion (place_head column row mode) s₃)
     else refused FieldRange)))

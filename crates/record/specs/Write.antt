@@ -1,7 +1,7 @@
 -- The bytes of a record.
 -- Assumes nothing.
 use Rattle.std.specs.Prelude.{List, [], ◌∷◌, ◌++◌, ℕ, ◌*◌, eqb, ℤ, take, drop}
-use Rattle.ints.specs.Z.{if◌then◌else◌}
+use Rattle.ints.specs.Z.{when◌then◌else◌}
 use Rattle.number.specs.Number.{number}
 use Rattle.number.specs.SignedNumber.{signed_number}
 use Rattle.vectors.specs.Modes.{num_motion_vectors}
@@ -30,4 +30,4 @@ rest_bytes r =
 
 -- column, row, mode; for mode 0 nothing more
 unfoldable pub record_bytes : Record → List ℕ
-record_bytes r = number r.head.column ++ number r.head.row ++ number r.head.mode ++ (if eqb r.head.mode 0 then [] else rest_bytes r)
+record_bytes r = number r.head.column ++ number r.head.row ++ number r.head.mode ++ (when eqb r.head.mode 0 then [] else rest_bytes r)

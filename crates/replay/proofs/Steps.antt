@@ -6,7 +6,7 @@ use Prim.Native.Nat.{ℕ, ◌+◌, ◌≤◌, ◌<◌}
 use native.Mathlib.Omega.{arith}
 use lib.IntN.{ℤ}
 use lib.ListN.{drop}
-use Rattle.ints.specs.Z.{if◌then◌else◌}
+use Rattle.ints.specs.Z.{when◌then◌else◌}
 use Rattle.refusal.specs.Got.{Got, got, refused}
 use Rattle.refusal.proofs.Formats.{got-value, got-count, never}
 use Rattle.refusal.specs.declared.Refusal.{Refusal}
@@ -95,5 +95,5 @@ pub skip-applied : (s : State) (column row : ℕ) {y cb cr : List ℕ} {mv : Lis
     → mv ≡ (applied_field (skip_record column row) (field_of s)).mv
     → marks ≡ (applied_field (skip_record column row) (field_of s)).marks
     → changed s s.quantiser y cb cr mv marks ≡ applied s (skip_record column row)
-unfolding applied quantiser_after skip_record if◌then◌else◌
+unfolding applied quantiser_after skip_record when◌then◌else◌
 skip-applied s column row ey ecb ecr em ek = λ i. changed s s.quantiser (ey i) (ecb i) (ecr i) (em i) (ek i)

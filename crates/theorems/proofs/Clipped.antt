@@ -6,7 +6,7 @@ use mathlib.Core.List.{List, [], ◌∷◌}
 use Prim.Native.Nat.{ℕ}
 use lib.IntN.{pos}
 use lib.ListN.{length, replicate, get_or}
-use Rattle.ints.specs.Z.{if◌then◌else◌, floor_z, sat_z, over_z, clamp_z, min_z, max_z, median_z}
+use Rattle.ints.specs.Z.{when◌then◌else◌, floor_z, sat_z, over_z, clamp_z, min_z, max_z, median_z}
 use Rattle.bits.specs.Bits.{bit_list}
 use Rattle.bits.specs.Code.{code_from, code}
 use Rattle.bits.specs.Signed.{signed_of, signed_code}
@@ -69,11 +69,11 @@ record Result (bits : List ℕ) (last : Bool) : Type 0 where
   last_bit : get_or (consumed bits 0 (clipped_run bits)) 56 false ≡ last
 
 result-less : Result less false
-unfolding clipped_bytes one less more clipped_run ran_list ran ran_from ended with_call transcript_of decoded outcome_of ask_call ask_start ask_quantiser ask_place place_in ask_rest grid_right planes_right state_right reference_there call_right calls calls_in call_in until_end if◌then◌else◌ floor_z sat_z over_z clamp_z min_z max_z median_z bit_list code_from code signed_of signed_code groups number low_then read_number sent signed_number patterns pattern quadrant_coded partition_width partition_height num_motion_vectors offset_x offset_y precision cell_at near_at left_of above_of above_left_of median_of combined predicted held_in predictor round_to_sixths convert_predictor summed scaled stored_part clipped_part no_vectors no_levels item_coded read_lists write_lists read_items signed_numbers item_bytes items_bytes rest_bytes record_bytes predictor_at moved read_vectors quantiser_in read_quantiser record_of at_first read_residual read_coded read_macroblock consumed
+unfolding clipped_bytes one less more clipped_run ran_list ran ran_from ended with_call transcript_of decoded outcome_of ask_call ask_start ask_quantiser ask_place place_in ask_rest grid_right planes_right state_right reference_there call_right calls calls_in call_in until_end when◌then◌else◌ floor_z sat_z over_z clamp_z min_z max_z median_z bit_list code_from code signed_of signed_code groups number low_then read_number sent signed_number patterns pattern quadrant_coded partition_width partition_height num_motion_vectors offset_x offset_y precision cell_at near_at left_of above_of above_left_of median_of combined predicted held_in predictor round_to_sixths convert_predictor summed scaled stored_part clipped_part no_vectors no_levels item_coded read_lists write_lists read_items signed_numbers item_bytes items_bytes rest_bytes record_bytes predictor_at moved read_vectors quantiser_in read_quantiser record_of at_first read_residual read_coded read_macroblock consumed
 result-less = record { bytes = refl; taken = refl; last_bit = refl }
 
 result-more : Result more true
-unfolding clipped_bytes one less more clipped_run ran_list ran ran_from ended with_call transcript_of decoded outcome_of ask_call ask_start ask_quantiser ask_place place_in ask_rest grid_right planes_right state_right reference_there call_right calls calls_in call_in until_end if◌then◌else◌ floor_z sat_z over_z clamp_z min_z max_z median_z bit_list code_from code signed_of signed_code groups number low_then read_number sent signed_number patterns pattern quadrant_coded partition_width partition_height num_motion_vectors offset_x offset_y precision cell_at near_at left_of above_of above_left_of median_of combined predicted held_in predictor round_to_sixths convert_predictor summed scaled stored_part clipped_part no_vectors no_levels item_coded read_lists write_lists read_items signed_numbers item_bytes items_bytes rest_bytes record_bytes predictor_at moved read_vectors quantiser_in read_quantiser record_of at_first read_residual read_coded read_macroblock consumed
+unfolding clipped_bytes one less more clipped_run ran_list ran ran_from ended with_call transcript_of decoded outcome_of ask_call ask_start ask_quantiser ask_place place_in ask_rest grid_right planes_right state_right reference_there call_right calls calls_in call_in until_end when◌then◌else◌ floor_z sat_z over_z clamp_z min_z max_z median_z bit_list code_from code signed_of signed_code groups number low_then read_number sent signed_number patterns pattern quadrant_coded partition_width partition_height num_motion_vectors offset_x offset_y precision cell_at near_at left_of above_of above_left_of median_of combined predicted held_in predictor round_to_sixths convert_predictor summed scaled stored_part clipped_part no_vectors no_levels item_coded read_lists write_lists read_items signed_numbers item_bytes items_bytes rest_bytes record_bytes predictor_at moved read_vectors quantiser_in read_quantiser record_of at_first read_residual read_coded read_macroblock consumed
 result-more = record { bytes = refl; taken = refl; last_bit = refl }
 
 pub clipped_runs : (transcript_of (clipped_run less) ≡ transcript_of (clipped_run more)) × (consumed less 0 (clipped_run less) ≡ consumed more 0 (clipped_run more) → ⊥)

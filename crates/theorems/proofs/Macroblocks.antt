@@ -10,7 +10,7 @@ use native.Mathlib.Omega.{arith}
 use lib.Dec.{eqb, lit≤, eqb→eq}
 use lib.IntN.{ℤ, pos, ◌+ℤ◌}
 use lib.ListN.{length, get_or}
-use Rattle.ints.specs.Z.{if◌then◌else◌, toward_zero, clip1_z}
+use Rattle.ints.specs.Z.{when◌then◌else◌, toward_zero, clip1_z}
 use Rattle.picture.specs.Picture.{filled}
 use Rattle.compensation.specs.Sample.{sample_at, sixths, block_sample}
 use Rattle.transform.specs.Tables.{dequant_coeff, chroma_coeff}
@@ -194,10 +194,10 @@ module _ (a b : ℕ) (la : a < 16) (lb : b < 16) where
 pub luma-at : (cols : ℕ) (h : Head) (levels : List ℤ) (pic : List ℕ) (X Y : ℕ) → SquareHolds 16 h.column h.row X Y → X < 16 * cols → Y * (16 * cols) + X < length pic
     → let a = X % 16 in let b = Y % 16 in let v = get_or pic (Y * (16 * cols) + X) 0 in
     get_or (luma_up_to 16 cols h levels pic) (Y * (16 * cols) + X) 0
-    ≡ (if quadrant_coded h.pattern (quadrant_at a b) then clip1_z (pos v +ℤ residual (dequant_coeff h.quantiser) (pos 0) (placed levels (item_place (luma_block_at a b))) (b % 4) (a % 4)) else v)
+    ≡ (when quadrant_coded h.pattern (quadrant_at a b) then clip1_z (pos v +ℤ residual (dequant_coeff h.quantiser) (pos 0) (placed levels (item_place (luma_block_at a b))) (b % 4) (a % 4)) else v)
 unfolding luma_up_to
 luma-at cols h levels pic X Y sq wide fits =
-    once (λ n. get_or (there n) (Y * s + X) 0) (λ v. if quadrant_coded h.pattern (quadrant_at a b) then clip1_z (pos v +ℤ ours (b % 4) (a % 4)) else v) m 16 among other here
+    once (λ n. get_or (there n) (Y * s + X) 0) (λ v. when quadrant_coded h.pattern (quadrant_at a b) then clip1_z (pos v +ℤ ours (b % 4) (a % 4)) else v) m 16 among other here
   where
     s : ℕ
     s = 16 * cols
@@ -231,7 +231,7 @@ luma-at cols h levels pic X Y sq wide fits =
         (added-elsewhere s _ _ _ (there n) X Y wide (λ p. e (block-only a b la lb n l (omega arith) (omega arith))))
         refl
 
-    here : get_or (there (suc m)) (Y * s + X) 0 ≡ (if quadrant_coded h.pattern (quadrant_at a b) then clip1_z (pos (get_or (there m) (Y * s + X) 0) +ℤ ours (b % 4) (a % 4)) else get_or (there m) (Y * s + X) 0)
+    here : get_or (there (suc m)) (Y * s + X) 0 ≡ (when quadrant_coded h.pattern (quadrant_at a b) then clip1_z (pos (get_or (there m) (Y * s + X) 0) +ℤ ours (b % 4) (a % 4)) else get_or (there m) (Y * s + X) 0)
     here =
         let c = block-cell a b la lb in
         let x : X - (16 * h.column + 4 * (cell_of_block m % 4)) ≡ a % 4 = omega (arith, c.0) in

@@ -12,7 +12,7 @@ use lib.Arith.{digits_div, digits_mod}
 use lib.Dec.{ltb}
 use lib.IntN.{ℤ, pos, ◌+ℤ◌}
 use lib.ListN.{length, get_or, get_or-eq_default}
-use Rattle.ints.specs.Z.{if◌then◌else◌, clip1_z}
+use Rattle.ints.specs.Z.{when◌then◌else◌, clip1_z}
 use Rattle.picture.specs.Painted.{within, inside, painted, Inside}
 use Rattle.picture.specs.Picture.{seen, copied}
 use Rattle.picture.proofs.Laws.{more, each_at_lem, both_true, within-true, within_in, painted-length, painted-other}
@@ -22,14 +22,14 @@ use Rattle.theorems.specs.Outside.{Outside}
 -- ---- tests
 
 -- what holds of both holds of the one that a test takes
-pub by-test : {A : Type 0} (P : A → Type 0) (t : Bool) {a b : A} → P a → P b → P (if t then a else b)
-unfolding if◌then◌else◌
+pub by-test : {A : Type 0} (P : A → Type 0) (t : Bool) {a b : A} → P a → P b → P (when t then a else b)
+unfolding when◌then◌else◌
 by-test P true p q = p
 by-test P false p q = q
 
 -- at a place of one of two planes
-pub if-at : (t u : Bool) (l m : List ℕ) (k : ℕ) {v : ℕ} → t ≡ u → get_or m k 0 ≡ v → get_or (if t then m else l) k 0 ≡ (if u then v else get_or l k 0)
-unfolding if◌then◌else◌
+pub if-at : (t u : Bool) (l m : List ℕ) (k : ℕ) {v : ℕ} → t ≡ u → get_or m k 0 ≡ v → get_or (when t then m else l) k 0 ≡ (when u then v else get_or l k 0)
+unfolding when◌then◌else◌
 if-at true u l m k e p = rw (← e) p
 if-at false u l m k e p = rw (← e) refl
 

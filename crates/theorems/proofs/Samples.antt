@@ -17,7 +17,7 @@ use lib.IntN.{pos, ◌+ℤ◌}
 use lib.ListN.{length, drop, get_or}
 use Rattle.refusal.specs.Got.{got}
 use Rattle.refusal.proofs.Formats.{got-value}
-use Rattle.ints.specs.Z.{if◌then◌else◌, toward_zero, clip1_z}
+use Rattle.ints.specs.Z.{when◌then◌else◌, toward_zero, clip1_z}
 use Rattle.bits.specs.Bits.{bit_list}
 use Rattle.picture.specs.Painted.{Inside}
 use Rattle.picture.specs.Picture.{copied}
@@ -105,7 +105,7 @@ unfolding quadrant_coded
 no-quadrant q = rw (zero-div (2 ^ q))
 
 not-coded : (plane : Plane) (r : Record) → r.head.pattern ≡ 0 → (a b v : ℕ) → with_residual_at plane r a b v ≡ v
-unfolding with_residual_at coded_at if◌then◌else◌
+unfolding with_residual_at coded_at when◌then◌else◌
 not-coded Luma r e a b v = rw (ap (λ (p : ℕ). quadrant_coded p (quadrant_at a b)) e ∙ no-quadrant (quadrant_at a b))
 not-coded Cb r e a b v = rw e
 not-coded Cr r e a b v = rw e
@@ -123,7 +123,7 @@ module _ {s : State} {call : Call} {r : Record} {after : State} (g : Applying s 
   -- a chroma plane, Cb 0 or Cr 1
   chroma-sample : (k i X Y : ℕ) (ref pic : List ℕ) → i < num_motion_vectors r.head.mode → PartHolds 2 (call_of r) i X Y → X < 8 * s.cols → Y * (8 * s.cols) + X < length pic
       → let v = sample_at ref (8 * s.cols) (8 * s.rows) (sixths (pos X) (toward_zero (vector_x r.vectors i) 2)) (sixths (pos Y) (toward_zero (vector_y r.vectors i) 2)) in
-      get_or (applied_chroma k s.cols s.rows ref r pic) (Y * (8 * s.cols) + X) 0 ≡ (if ltb 0 (class_of r.head.pattern) then clip1_z (pos v +ℤ chroma_residual_at k r (X % 8) (Y % 8)) else v)
+      get_or (applied_chroma k s.cols s.rows ref r pic) (Y * (8 * s.cols) + X) 0 ≡ (when ltb 0 (class_of r.head.pattern) then clip1_z (pos v +ℤ chroma_residual_at k r (X % 8) (Y % 8)) else v)
   unfolding chroma_added chroma_residual_at
   chroma-sample k i X Y ref pic l p wide fits =
       let sq = among-larger (part_in true (call_of r) i g.mode l) p in

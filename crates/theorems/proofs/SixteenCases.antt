@@ -5,7 +5,7 @@ use mathlib.Core.Bool.{true, false}
 use mathlib.Core.List.{[], ◌∷◌}
 use lib.IntN.{pos, negsuc}
 use lib.ListN.{replicate}
-use Rattle.ints.specs.Z.{if◌then◌else◌, sat_z, clamp_z, floor_z}
+use Rattle.ints.specs.Z.{when◌then◌else◌, sat_z, clamp_z, floor_z}
 use Rattle.refusal.specs.Got.{got}
 use Rattle.bits.specs.Code.{code, code_from}
 use Rattle.bits.specs.Signed.{signed_of}
@@ -35,5 +35,5 @@ pub sixteen_cases :
     × (along 4 0 255 ≡ 170)
     × (formula 1 3 0 100 1 101 ≡ 34)
     × (listed (residual (dequant_coeff 0) (pos 0) (placed (negsuc 0 ∷ []) 0)) ≡ replicate 16 (negsuc 0))
-unfolding code code_from signed_of resolve level level_of magnitude magnitudes run runs escape_magnitude least chroma_base convert_predictor round_to_sixths along formula dequant_coeff placed scaled sum_of weighed rows_of columns_of rounded residual listed if◌then◌else◌ sat_z clamp_z floor_z
+unfolding code code_from signed_of resolve level level_of magnitude magnitudes run runs escape_magnitude least chroma_base convert_predictor round_to_sixths along formula dequant_coeff placed scaled sum_of weighed rows_of columns_of rounded residual listed when◌then◌else◌ sat_z clamp_z floor_z
 sixteen_cases = (refl, refl, refl, refl, refl, refl, refl, refl, refl, refl, refl, refl, refl, refl, refl, refl)

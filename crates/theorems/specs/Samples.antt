@@ -1,7 +1,7 @@
 -- The three planes of a picture, sample by sample: what compensation and the residual say of the sample at column x of row y.
 -- Assumes nothing.
 use Rattle.std.specs.Prelude.{Bool, List, ℕ, ◌+◌, ◌*◌, ◌/◌, ◌%◌, ltb, ℤ, pos, ◌+ℤ◌, get_or}
-use Rattle.ints.specs.Z.{if◌then◌else◌, toward_zero, floor_z, clip1_z}
+use Rattle.ints.specs.Z.{when◌then◌else◌, toward_zero, floor_z, clip1_z}
 use Rattle.compensation.specs.Sample.{tap, sample_at, sixths}
 use Rattle.transform.specs.Tables.{dequant_coeff, chroma_coeff}
 use Rattle.transform.specs.Residual.{placed, residual}
@@ -102,4 +102,4 @@ residual_at Cr r a b = chroma_residual_at 1 r a b
 
 -- a sample there with its residual, held in 0 to 255; where there is none, the sample alone
 unfoldable pub with_residual_at : Plane → Record → ℕ → ℕ → ℕ → ℕ
-with_residual_at plane r a b v = if coded_at plane r a b then clip1_z (pos v +ℤ residual_at plane r a b) else v
+with_residual_at plane r a b v = when coded_at plane r a b then clip1_z (pos v +ℤ residual_at plane r a b) else v

@@ -3,7 +3,7 @@
 use mathlib.Core.Path.{◌≡◌, refl}
 use mathlib.Core.List.{List, [], ◌∷◌, ◌++◌}
 use Prim.Native.Nat.{ℕ}
-use Rattle.ints.specs.Z.{if◌then◌else◌}
+use Rattle.ints.specs.Z.{when◌then◌else◌}
 use Rattle.refusal.specs.declared.Refusal.TheVariants.{GridSize, NumberForm, FieldRange}
 use Rattle.number.specs.Number.{low_then, read_number}
 use Rattle.number.specs.SignedNumber.{received, read_signed}
@@ -23,7 +23,7 @@ unfoldable pub one : List ℕ
 one = 0 ∷ 0 ∷ 1 ∷ 0 ∷ 0 ∷ 12 ∷ 0 ∷ 0 ∷ 5 ∷ []
 
 pub accepted : (checked 1 1 [] ≡ Records 0) × (checked 1 1 one ≡ Records 1) × (checked 1 1 (one ++ 0 ∷ 0 ∷ 0 ∷ []) ≡ Records 2)
-unfolding one checked records records_in until_end grid_right no_vectors no_levels skip_record if◌then◌else◌ low_then read_number received read_signed quadrant_coded num_motion_vectors item_coded read_lists field read_signeds parse_items parse_residual parse_motion parse_record
+unfolding one checked records records_in until_end grid_right no_vectors no_levels skip_record when◌then◌else◌ low_then read_number received read_signed quadrant_coded num_motion_vectors item_coded read_lists field read_signeds parse_items parse_residual parse_motion parse_record
 accepted = (refl, refl, refl)
 
 -- a grid of no column, whatever the bytes; bytes that end inside a record, also behind a whole one; a column that the grid does not have: 15, but only once row and mode are read; a clipped count of 3
@@ -33,5 +33,5 @@ pub refusals : (checked 0 1 (255 ∷ []) ≡ Refused GridSize)
     × (checked 1 1 (1 ∷ 0 ∷ 0 ∷ []) ≡ Refused FieldRange)
     × (checked 1 1 (1 ∷ 0 ∷ []) ≡ Refused NumberForm)
     × (checked 1 1 (0 ∷ 0 ∷ 1 ∷ 0 ∷ 3 ∷ []) ≡ Refused FieldRange)
-unfolding one checked records records_in until_end grid_right no_vectors no_levels skip_record if◌then◌else◌ low_then read_number received read_signed quadrant_coded num_motion_vectors item_coded read_lists field read_signeds parse_items parse_residual parse_motion parse_record
+unfolding one checked records records_in until_end grid_right no_vectors no_levels skip_record when◌then◌else◌ low_then read_number received read_signed quadrant_coded num_motion_vectors item_coded read_lists field read_signeds parse_items parse_residual parse_motion parse_record
 refusals = (refl, refl, refl, refl, refl, refl)

@@ -11,7 +11,7 @@ use lib.Dec.{leb, ltb, eqb}
 use lib.IntN.{ℤ}
 use lib.ListN.{drop}
 use lib.Seq.{drop-drop}
-use Rattle.ints.specs.Z.{if◌then◌else◌}
+use Rattle.ints.specs.Z.{when◌then◌else◌}
 use Rattle.refusal.specs.Got.{Got, got, refused, after, and_then}
 use Rattle.refusal.specs.declared.Refusal.{Refusal}
 use Rattle.refusal.specs.declared.Refusal.TheVariants.{NumberForm, FieldRange}
@@ -53,14 +53,14 @@ then-got (refused r) s k y n e = never e
 
 -- ---- what stands behind the mode, and behind each number before it
 unfoldable parse_rest : Head → List ℕ → Got Record
-parse_rest h s = if eqb h.mode 0 then got (skip_record h.column h.row) 0 else parse_motion h s
+parse_rest h s = when eqb h.mode 0 then got (skip_record h.column h.row) 0 else parse_motion h s
 
 module _ (cols rows : ℕ) where
   abbrev judge : ℕ → ℕ → ℕ → Bool
   judge column row mode = ltb column cols && ltb row rows && leb mode 7
 
   abbrev behind_mode : ℕ → ℕ → ℕ → List ℕ → Got Head
-  behind_mode column row mode s = if judge column row mode then got (place_head column row mode) 0 else refused FieldRange
+  behind_mode column row mode s = when judge column row mode then got (place_head column row mode) 0 else refused FieldRange
 
   abbrev behind_row : ℕ → ℕ → List ℕ → Got Head
   behind_row column row s = and_then (read_number s) s (behind_mode column row)
@@ -69,9 +69,9 @@ module _ (cols rows : ℕ) where
   behind_column column s = and_then (read_number s) s (behind_row column)
 
   behind-judged : (column row mode : ℕ) (u : List ℕ) (t : Bool)
-      → and_then (if t then got (place_head column row mode) 0 else refused FieldRange) u parse_rest
-      ≡ (if t then (if eqb mode 0 then got (skip_record column row) 0 else parse_motion (place_head column row mode) u) else refused FieldRange)
-  unfolding if◌then◌else◌ parse_rest
+      → and_then (when t then got (place_head column row mode) 0 else refused FieldRange) u parse_rest
+      ≡ (when t then (when eqb mode 0 then got (skip_record column row) 0 else parse_motion (place_head column row mode) u) else refused FieldRange)
+  unfolding when◌then◌else◌ parse_rest
   behind-judged column row mode u true = after-zero (parse_rest (place_head column row mode) u)
   behind-judged column row mode u false = refl
 
@@ -89,8 +89,8 @@ module _ (cols rows : ℕ) where
     pub row : h.row < rows
     pub mode : h.mode ≤ 7
 
-  judged-range : (h : Head) (column row mode m : ℕ) (t : Bool) → judge column row mode ≡ t → (if t then got (place_head column row mode) 0 else refused FieldRange) ≡ got h m → PlaceRange h
-  unfolding if◌then◌else◌
+  judged-range : (h : Head) (column row mode m : ℕ) (t : Bool) → judge column row mode ≡ t → (when t then got (place_head column row mode) 0 else refused FieldRange) ≡ got h m → PlaceRange h
+  unfolding when◌then◌else◌
   judged-range h column row mode m true i f =
       let j = all_three (ltb column cols) (ltb row rows) (leb mode 7) i in
       subst PlaceRange (got-value f) (record { column = ltb-true column cols j.0; row = ltb-true row rows j.1; mode = leb-true mode 7 j.2 })
@@ -107,7 +107,7 @@ module _ (cols rows : ℕ) where
 -- ---- column, row and mode, read one after another
 answer-on : (at n : ℕ) (g : Got Head) → place_answer at (after n g) ≡ place_answer (at + n) g
 unfolding place_answer
-answer-on at n (got h m) = ap (λ (k : ℕ). if eqb h.mode 0 then Skip h.column h.row k else Coded h k) (sym (add_assoc at n m))
+answer-on at n (got h m) = ap (λ (k : ℕ). when eqb h.mode 0 then Skip h.column h.row k else Coded h k) (sym (add_assoc at n m))
 answer-on at n (refused r) = refl
 
 module _ (at : ℕ) (s : List ℕ) (k : ℕ → List ℕ → Got Head) where
@@ -148,21 +148,21 @@ module _ (cols rows : ℕ) (s : List ℕ) (at : ℕ) where
       no_mode r g = with_row (Refused NumberForm) (no_number q s (behind_mode cols rows column row) r g)
 
       module _ (mode next : ℕ) (g : number.Number mode next ≡ number_answer q (read_number (drop q s))) where
-        with_mode : (t : Bool) → judge cols rows column row mode ≡ t → (answer : PlaceAnswer) → answer ≡ place_answer next (if t then got (place_head column row mode) 0 else refused FieldRange) → Whole answer
+        with_mode : (t : Bool) → judge cols rows column row mode ≡ t → (answer : PlaceAnswer) → answer ≡ place_answer next (when t then got (place_head column row mode) 0 else refused FieldRange) → Whole answer
         with_mode t i answer k =
-            with_row answer (k ∙ ap (λ (b : Bool). place_answer next (if b then got (place_head column row mode) 0 else refused FieldRange)) (sym i)
+            with_row answer (k ∙ ap (λ (b : Bool). place_answer next (when b then got (place_head column row mode) 0 else refused FieldRange)) (sym i)
             ∙ number-then q s (behind_mode cols rows column row) mode next g)
 
         pub outside : judge cols rows column row mode ≡ false → Whole (Refused FieldRange)
-        unfolding place_answer if◌then◌else◌
+        unfolding place_answer when◌then◌else◌
         outside t = with_mode false t (Refused FieldRange) refl
 
         pub is-skip : judge cols rows column row mode ≡ true → mode ≡ 0 → Whole (Skip column row next)
-        unfolding place_answer if◌then◌else◌
+        unfolding place_answer when◌then◌else◌
         is-skip t z = with_mode true t (Skip column row next) (rw (eq-eqb mode 0 z) (ap (Skip column row) (sym (add-zero next))))
 
         pub is-coded : judge cols rows column row mode ≡ true → (mode ≡ 0 → ⊥) → (o : Head) → o ≡ place_head column row mode → Whole (Coded o next)
-        unfolding place_answer if◌then◌else◌
+        unfolding place_answer when◌then◌else◌
         is-coded t z o i =
             with_mode true t (Coded o next) (rw (ne_eqb mode 0 z) (ap (λ (x : Head). Coded x next) i ∙ ap (Coded (place_head column row mode)) (sym (add-zero next))))
 
@@ -176,31 +176,31 @@ record Placed (at : ℕ) (g : Got Head) (next : ℕ) (Of : Head → Type 0) : Ty
   of : Of head
 
 skip-placed : (at : ℕ) (g : Got Head) (column row next : ℕ) → Skip column row next ≡ place_answer at g → Placed at g next (λ h. (h.mode ≡ 0) × (column ≡ h.column) × (row ≡ h.row))
-unfolding place_answer if◌then◌else◌
+unfolding place_answer when◌then◌else◌
 skip-placed at (refused r) column row next e = absurd (let z : ◌≡◌ {A = ℕ} 0 1 = cc in omega arith)
 skip-placed at (got h n) column row next e = go (eqb h.mode 0) refl (e)
   where
-    go : (t : Bool) → eqb h.mode 0 ≡ t → Skip column row next ≡ (if t then Skip h.column h.row (at + n) else Coded h (at + n)) → Placed at (got h n) next (λ h. (h.mode ≡ 0) × (column ≡ h.column) × (row ≡ h.row))
+    go : (t : Bool) → eqb h.mode 0 ≡ t → Skip column row next ≡ (when t then Skip h.column h.row (at + n) else Coded h (at + n)) → Placed at (got h n) next (λ h. (h.mode ≡ 0) × (column ≡ h.column) × (row ≡ h.row))
     go true i f = record { head = h; taken = n; is = refl; moved = cc; of = (eqb-true h.mode 0 i, cc, cc) }
     go false i f = absurd (let z : ◌≡◌ {A = ℕ} 0 1 = cc in omega arith)
 
 coded-placed : (at : ℕ) (g : Got Head) (h : Head) (next : ℕ) → Coded h next ≡ place_answer at g → Placed at g next (λ o. (o ≡ h) × (h.mode ≡ 0 → ⊥))
-unfolding place_answer if◌then◌else◌
+unfolding place_answer when◌then◌else◌
 coded-placed at (refused r) h next e = absurd (let z : ◌≡◌ {A = ℕ} 0 1 = cc in omega arith)
 coded-placed at (got o n) h next e = go (eqb o.mode 0) refl e
   where
-    go : (t : Bool) → eqb o.mode 0 ≡ t → Coded h next ≡ (if t then Skip o.column o.row (at + n) else Coded o (at + n)) → Placed at (got o n) next (λ o. (o ≡ h) × (h.mode ≡ 0 → ⊥))
+    go : (t : Bool) → eqb o.mode 0 ≡ t → Coded h next ≡ (when t then Skip o.column o.row (at + n) else Coded o (at + n)) → Placed at (got o n) next (λ o. (o ≡ h) × (h.mode ≡ 0 → ⊥))
     go true i f = absurd (let z : ◌≡◌ {A = ℕ} 0 1 = cc in omega arith)
     go false i f =
         let k : o ≡ h = cc in
         record { head = o; taken = n; is = refl; moved = cc; of = (k, λ z. absurd (let x = sym i ∙ eq-eqb o.mode 0 (ap (λ (y : Head). y.mode) k ∙ z) in let w : ◌≡◌ {A = ℕ} 0 1 = cc in omega arith)) }
 
 not-placed : (at : ℕ) (g : Got Head) (r : Refusal) → Refused r ≡ place_answer at g → g ≡ refused r
-unfolding place_answer if◌then◌else◌
+unfolding place_answer when◌then◌else◌
 not-placed at (refused q) r e = ap refused (cc)
 not-placed at (got h n) r e = go (eqb h.mode 0) e
   where
-    go : (t : Bool) → Refused r ≡ (if t then Skip h.column h.row (at + n) else Coded h (at + n)) → got h n ≡ refused r
+    go : (t : Bool) → Refused r ≡ (when t then Skip h.column h.row (at + n) else Coded h (at + n)) → got h n ≡ refused r
     go true f = absurd (let z : ◌≡◌ {A = ℕ} 0 1 = cc in omega arith)
     go false f = absurd (let z : ◌≡◌ {A = ℕ} 0 1 = cc in omega arith)
 

@@ -11,7 +11,7 @@ use lib.Dec.{leb}
 use lib.IntN.{ℤ, pos}
 use lib.ListN.{length, drop, set, length-set}
 use lib.Seq.{sets, drop-drop, set-set}
-use Rattle.ints.specs.Z.{if◌then◌else◌}
+use Rattle.ints.specs.Z.{when◌then◌else◌}
 use Rattle.refusal.specs.Got.{Got, got, refused, after, map_got}
 use Rattle.refusal.specs.declared.Refusal.{Refusal}
 use Rattle.refusal.specs.declared.Refusal.TheVariants.{FieldRange}
@@ -36,7 +36,7 @@ use Rattle.levels.proofs.ItemAnswers.{left_end, left-refused}
 
 -- ---- a number with a limit
 module _ (at most : ℕ) (s : List ℕ) where
-  read-on : (v n : ℕ) → read_number s ≡ got v n → field most s ≡ after n (if leb v most then got v 0 else refused FieldRange)
+  read-on : (v n : ℕ) → read_number s ≡ got v n → field most s ≡ after n (when leb v most then got v 0 else refused FieldRange)
   unfolding field
   read-on v n e = rw e
 

@@ -12,7 +12,7 @@ use lib.Dec.{leb, ltb}
 use lib.IntN.{ℤ, pos, negsuc, ◌+ℤ◌}
 use lib.ListN.{length, get_or, take, drop, set, length-set, length-drop, length-map, get_or-map}
 use lib.Seq.{sets, take-suc, length-take-le, get_or-set_same, get_or-set_other, get_or-take, get_or-drop}
-use Rattle.ints.specs.Z.{if◌then◌else◌, clamp_z}
+use Rattle.ints.specs.Z.{when◌then◌else◌, clamp_z}
 use Rattle.ints.proofs.Fits.{sub-ind}
 use Rattle.number.specs.Number.{number}
 use Rattle.number.specs.SignedNumber.{sent, signed_number}
@@ -42,15 +42,15 @@ short-each t (suc n) e k h =
 
 -- ---- a number held in -128 to 127
 pub held-is : (z : ℤ) → clamp_z (negsuc 127) (pos 127) z +ℤ pos 128 ≡ pos (held_of z)
-unfolding clamp_z held_of if◌then◌else◌
+unfolding clamp_z held_of when◌then◌else◌
 held-is (pos n) = go (ltb 127 n) refl
   where
-    go : (t : Bool) → ltb 127 n ≡ t → (if t then pos 127 else pos n) +ℤ pos 128 ≡ pos (128 + min n 127)
+    go : (t : Bool) → ltb 127 n ≡ t → (when t then pos 127 else pos n) +ℤ pos 128 ≡ pos (128 + min n 127)
     go true e = ap pos (omega (arith, ltb-true 127 n e))
     go false e = ap pos (omega (arith, ltb-false 127 n e))
 held-is (negsuc n) = go (ltb 127 n) refl
   where
-    go : (t : Bool) → ltb 127 n ≡ t → (if t then negsuc 127 else negsuc n) +ℤ pos 128 ≡ pos (127 - n)
+    go : (t : Bool) → ltb 127 n ≡ t → (when t then negsuc 127 else negsuc n) +ℤ pos 128 ≡ pos (127 - n)
     go true e = ap pos (omega (arith, ltb-true 127 n e))
     go false e = sub-ind (λ z. z ≡ pos (127 - n)) 128 (suc n) (λ k h. absurd (omega (arith, ltb-false 127 n e))) (λ k h. ap pos (omega (arith, ltb-false 127 n e)))
 
@@ -61,7 +61,7 @@ held_small (negsuc n) = omega arith
 
 -- ---- what they are sent as
 short-sent : (z : ℤ) → 64 ≤ held_of z → held_of z < 192 → (sent_short (held_of z) < 128) × (sent_short (held_of z) ≡ sent z)
-unfolding held_of sent_short sent if◌then◌else◌
+unfolding held_of sent_short sent when◌then◌else◌
 short-sent (pos n) h k =
     let m : min n 127 ≡ n = omega arith in
     let r : (128 + n) % 128 ≡ n = omega arith in
@@ -99,7 +99,7 @@ one_byte z b h e = rw (← e) (one-group 4 b h)
 
 -- the byte of each
 pub sent-at : (t : List ℕ) (k : ℕ) → get_or (map sent_short t) k 0 ≡ sent_short (get_or t k 0)
-unfolding sent_short if◌then◌else◌
+unfolding sent_short when◌then◌else◌
 sent-at t k = get_or-map sent_short t k 0
 
 shorts : (zs : List ℤ) (bs : List ℕ) → length bs ≡ length zs → ((k : ℕ) → k < length zs → (get_or bs k 0 < 128) × (get_or bs k 0 ≡ sent (get_or zs k (pos 0)))) → signed_numbers zs ≡ bs

@@ -9,7 +9,7 @@ use lib.Dec.{eqb}
 use lib.IntN.{ℤ, pos}
 use lib.ListN.{length, get_or, take, drop, length-append}
 use lib.Seq.{sets, length-sets, drop-cons, drop-drop, take-add}
-use Rattle.ints.specs.Z.{if◌then◌else◌}
+use Rattle.ints.specs.Z.{when◌then◌else◌}
 use Rattle.number.specs.Number.{number}
 use Rattle.number.specs.SignedNumber.{signed_number}
 use Rattle.levels.specs.Book.{positions}
@@ -202,7 +202,7 @@ coded-parts r h = rw (when_false (eqb r.head.mode 0) [] (rest_bytes r) (ne_eqb r
 
 -- a skip: its place and mode 0
 pub skip-parts : (column row : ℕ) → record_bytes (skip_record column row) ≡ joined (number column ∷ number row ∷ number 0 ∷ [])
-unfolding record_bytes skip_record if◌then◌else◌
+unfolding record_bytes skip_record when◌then◌else◌
 skip-parts column row = simp (append_assoc, append-nil)
 
 pub skip-length : (column row : ℕ) → column < 4096 → row < 4096 → length (record_bytes (skip_record column row)) ≤ 2089

@@ -1,7 +1,7 @@
 -- The transcript check: from the grid and the bytes it asks 1, then 14 and 15, and answers the number of records.
 -- Assumes nothing.
 use Rattle.std.specs.Prelude.{List, ℕ, length}
-use Rattle.ints.specs.Z.{if◌then◌else◌}
+use Rattle.ints.specs.Z.{when◌then◌else◌}
 use Rattle.refusal.specs.Got.{Got, got, refused}
 use Rattle.refusal.specs.declared.Refusal.TheVariants.{GridSize}
 use Rattle.state.specs.Questions.{grid_right}
@@ -16,4 +16,4 @@ check_answer (got rs n) = Records (length rs)
 check_answer (refused why) = Refused why
 
 unfoldable pub checked : ℕ → ℕ → List ℕ → CheckAnswer
-checked cols rows bytes = if grid_right cols rows then check_answer (records cols rows bytes) else Refused GridSize
+checked cols rows bytes = when grid_right cols rows then check_answer (records cols rows bytes) else Refused GridSize

@@ -1,7 +1,7 @@
 -- What the readers of a record answer and leave.
 -- Assumes nothing.
 use Rattle.std.specs.Prelude.{◌≡◌, List, ℕ, ◌+◌, eqb, ℤ}
-use Rattle.ints.specs.Z.{if◌then◌else◌}
+use Rattle.ints.specs.Z.{when◌then◌else◌}
 use Rattle.refusal.specs.Got.{Got, got, refused}
 use Rattle.record.specs.Record.{Record}
 use Rattle.record.specs.declared.Head.{Head}
@@ -17,7 +17,7 @@ parse_answer at (refused r) = Refused r
 
 -- the answer of a reader that stops behind the mode: a record of mode 0 is a skip
 unfoldable pub place_answer : ℕ → Got Head → PlaceAnswer
-place_answer at (got h n) = if eqb h.mode 0 then place.Skip h.column h.row (at + n) else place.Coded h (at + n)
+place_answer at (got h n) = when eqb h.mode 0 then place.Skip h.column h.row (at + n) else place.Coded h (at + n)
 place_answer at (refused r) = place.Refused r
 
 -- the answer of a reader of a record, and the vectors and levels that it leaves, which are the record's where it has one

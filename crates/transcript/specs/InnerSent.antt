@@ -1,7 +1,7 @@
 -- Short numbers, -64 to 63, which are sent as one byte each: contracts of inner functions.
 -- Assumes nothing.
 use Rattle.std.specs.Prelude.{◌≡◌, Bool, true, ◌&&◌, List, ℕ, zero, suc, ◌+◌, ◌-◌, ◌*◌, ◌%◌, ◌<◌, min, leb, ltb, ℤ, pos, negsuc, length, get_or}
-use Rattle.ints.specs.Z.{if◌then◌else◌}
+use Rattle.ints.specs.Z.{when◌then◌else◌}
 
 -- z held in -128 to 127, and counted from -128 on; `negsuc n` is -(n + 1)
 unfoldable pub held_of : ℤ → ℕ
@@ -10,7 +10,7 @@ held_of (negsuc n) = 127 - n
 
 -- what a short z is sent as, by `held_of z`
 unfoldable pub sent_short : ℕ → ℕ
-sent_short held = if ltb (2 * (held % 128)) 128 then 2 * (held % 128) else 255 - 2 * (held % 128)
+sent_short held = when ltb (2 * (held % 128)) 128 then 2 * (held % 128) else 255 - 2 * (held % 128)
 
 -- each of the first n is `held_of` of a short number
 unfoldable pub short_sent : List ℕ → ℕ → Bool

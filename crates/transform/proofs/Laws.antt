@@ -10,7 +10,7 @@ use lib.Dec.{lit<}
 use lib.IntN.{ℤ, pos, negsuc, neg_ℤ, ◌+ℤ◌, ◌*ℤ◌}
 use lib.Signed.{lt_z, mag}
 use lib.ListN.{set, get_or}
-use Rattle.ints.specs.Z.{if◌then◌else◌, min_z, clamp_z, sat_z, clip1_z}
+use Rattle.ints.specs.Z.{when◌then◌else◌, min_z, clamp_z, sat_z, clip1_z}
 use Rattle.ints.proofs.Fits.{within-clamp, within-lit, clamp-ind}
 use Rattle.ints.proofs.Linear.{z-rules, add-z, neg-z, min-z, clip1-z, mag-z}
 use Rattle.picture.specs.Picture.{seen}
@@ -137,14 +137,14 @@ short-listed f = short-all (shortened f) (λ r c lr lc. (within-clamp 4096 (negs
 
 -- ---- a block with no levels but its DC
 weighed-none : (k : ℕ) → weighed k (pos 0) (pos 0) (pos 0) (pos 0) ≡ pos 0
-unfolding weighed sum_of sat_z clamp_z if◌then◌else◌
+unfolding weighed sum_of sat_z clamp_z when◌then◌else◌
 weighed-none zero = refl
 weighed-none (suc zero) = refl
 weighed-none (suc (suc zero)) = refl
 weighed-none (suc (suc (suc k))) = refl
 
 scaled-none : (scale : ℕ) → scaled scale no_levels ≡ no_levels
-unfolding scaled no_levels sat_z clamp_z if◌then◌else◌
+unfolding scaled no_levels sat_z clamp_z when◌then◌else◌
 scaled-none scale = λ i r c. sat_z (pos (zero-mul scale i))
 
 transformed-none : (scale : ℕ) → columns_of (rows_of (scaled scale no_levels)) ≡ no_levels

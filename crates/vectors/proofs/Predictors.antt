@@ -13,7 +13,7 @@ use lib.Signed.{mag}
 use mir.Syntax.{w32, w64}
 use mir.Val.{to_z}
 use mir.Facts.{to_z-of_z}
-use Rattle.ints.specs.Z.{if◌then◌else◌, clamp_z}
+use Rattle.ints.specs.Z.{when◌then◌else◌, clamp_z}
 use Rattle.ints.proofs.Fits.{read, cast-pos, mag-add, if_yes, if_no}
 use Rattle.ints.proofs.Same.{reads}
 use Rattle.ints.proofs.Linear.{z-rules, diff-z, abs-z, mag-z}
@@ -40,11 +40,11 @@ module _ (a b c : Near) {l m n : ℕ} (p : l ≡ present a) (q : m ≡ present b
 
 -- ---- of cells by their marks
 -- C, or D where C is marked 0
-pub third : (mv : List ℤ) (marks : List ℕ) (c d : ℕ) → cell_at mv marks (if eqb (get_or marks c 0) 0 then d else c) ≡ or_else (cell_at mv marks c) (cell_at mv marks d)
-unfolding cell_at if◌then◌else◌
+pub third : (mv : List ℤ) (marks : List ℕ) (c d : ℕ) → cell_at mv marks (when eqb (get_or marks c 0) 0 then d else c) ≡ or_else (cell_at mv marks c) (cell_at mv marks d)
+unfolding cell_at when◌then◌else◌
 third mv marks c d = go (eqb (get_or marks c 0) 0) refl
   where
-    go : (t : Bool) → eqb (get_or marks c 0) 0 ≡ t → cell_at mv marks (if t then d else c) ≡ or_else (cell_at mv marks c) (cell_at mv marks d)
+    go : (t : Bool) → eqb (get_or marks c 0) 0 ≡ t → cell_at mv marks (when t then d else c) ≡ or_else (cell_at mv marks c) (cell_at mv marks d)
     go true e = rw e refl
     go false e = rw e refl
 

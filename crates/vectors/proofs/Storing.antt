@@ -11,7 +11,7 @@ use borrow.Author.Tests.{ltb-true, lt-ltb}
 use lib.Dec.{eqb, ltb}
 use lib.IntN.{ℤ, pos}
 use lib.ListN.{length, get_or}
-use Rattle.ints.specs.Z.{if◌then◌else◌}
+use Rattle.ints.specs.Z.{when◌then◌else◌}
 use Rattle.picture.specs.InnerRows.{row, rows}
 use Rattle.picture.specs.Painted.{within, inside, painted, Inside}
 use Rattle.picture.specs.Picture.{cell_count, always, filled}
@@ -26,10 +26,10 @@ use Rattle.vectors.specs.declared.svq3_frame.Near.TheVariants.{Missing, Here}
 
 -- ---- a pair of numbers for each cell
 pub pair_same : (v : ℤ) (r c : ℕ) → v ≡ pair_of v v r c
-unfolding pair_of if◌then◌else◌
+unfolding pair_of when◌then◌else◌
 pair_same v r c = go (eqb (c % 2) 0)
   where
-    go : (t : Bool) → v ≡ (if t then v else v)
+    go : (t : Bool) → v ≡ (when t then v else v)
     go true = refl
     go false = refl
 
@@ -61,7 +61,7 @@ painted-at s x y w h v l i d lt = each_at_lem _ l i d lt
 
 -- by its mark and its numbers
 abbrev pub shown : ℕ → ℤ → ℤ → Near
-shown m a b = if eqb m 0 then Missing else Here (vector a b)
+shown m a b = when eqb m 0 then Missing else Here (vector a b)
 
 -- column c of row r, in rows of s cells: number e of its two stands in column 2 · c + e of 2 · s
 module _ (s x y w h r c : ℕ) (lc : c < s) where
@@ -114,7 +114,7 @@ module _ (s x y w h r c : ℕ) (lc : c < s) where
   -- THE CELL afterwards: the vector where it belongs to the partition, and else what it was
   stored-cell : (vx vy : ℤ) (mv : List ℤ) (marks : List ℕ) → length mv ≡ 2 * length marks → r * s + c < length marks
       → cell_at (stored_vectors mv s x y w h vx vy) (stored_marks marks s x y w h) (r * s + c) ≡ cond belongs (Here (vector vx vy)) (cell_at mv marks (r * s + c))
-  unfolding cell_at pair_of if◌then◌else◌
+  unfolding cell_at pair_of when◌then◌else◌
   stored-cell vx vy mv marks twice lt =
       let x₀ = rw add-zero at (number_at 0 (omega arith) vx vy mv (omega arith)) in
       let y₀ = number_at 1 (omega arith) vx vy mv (omega arith) in
@@ -147,7 +147,7 @@ module _ (f : Field) (x y w h : ℕ) (vx vy : ℤ) where
 
   -- ANY CELL of the field afterwards, on the picture or off it
   pub near-stored : FieldSized f → x + w ≤ 4 * f.cols → y + h ≤ 4 * f.rows → (c r : ℕ) → near_at after c r ≡ cond (within x w c && within y h r) (Here (vector vx vy)) (near_at f c r)
-  unfolding near_at stored_field if◌then◌else◌
+  unfolding near_at stored_field when◌then◌else◌
   near-stored s lx ly c r = go (ltb c (4 * f.cols) && ltb r (4 * f.rows)) refl
     where
       old : Near
@@ -160,7 +160,7 @@ module _ (f : Field) (x y w h : ℕ) (vx vy : ℤ) where
       none true n = absurd (n refl)
       none false n = refl
 
-      go : (t : Bool) → (ltb c (4 * f.cols) && ltb r (4 * f.rows)) ≡ t → (if t then new else Missing) ≡ cond (within x w c && within y h r) (Here (vector vx vy)) (if t then old else Missing)
+      go : (t : Bool) → (ltb c (4 * f.cols) && ltb r (4 * f.rows)) ≡ t → (when t then new else Missing) ≡ cond (within x w c && within y h r) (Here (vector vx vy)) (when t then old else Missing)
       go true e =
           let lc = ltb-true c (4 * f.cols) (and_left (ltb c (4 * f.cols)) (ltb r (4 * f.rows)) e) in
           let lr = ltb-true r (4 * f.rows) (and_right (ltb c (4 * f.cols)) (ltb r (4 * f.rows)) e) in

@@ -14,7 +14,7 @@ use lib.Dec.{eqb, ltb}
 use lib.IntN.{ℤ, pos}
 use lib.ListN.{length, get_or, set, length-set}
 use lib.Seq.{get_or-set_same, get_or-set_other}
-use Rattle.ints.specs.Z.{if◌then◌else◌}
+use Rattle.ints.specs.Z.{when◌then◌else◌}
 use Rattle.ints.proofs.Fits.{if_yes, if_no}
 use Rattle.picture.specs.Painted.{within}
 use Rattle.picture.specs.InnerPicture.{Within}
@@ -126,7 +126,7 @@ module _ (near : List ℤ) (marked : List ℕ) (mv : List ℤ) (marks : List ℕ
 -- ---- cell k written: its mark alone, or all of it
 module _ (mv : List ℤ) (marks : List ℕ) (k : ℕ) where
   pub no-vector : k < length marks → cell_at mv (set marks k 0) k ≡ Missing
-  unfolding cell_at if◌then◌else◌
+  unfolding cell_at when◌then◌else◌
   no-vector h = rw (get_or-set_same marks k 0 0 h)
 
   pub no-vector-other : (j : ℕ) → j ≢ k → cell_at mv (set marks k 0) j ≡ cell_at mv marks j
@@ -259,7 +259,7 @@ module _ (f : Field) (x y w h : ℕ) (vx vy : ℤ) (s : FieldSized f) (lx : x + 
 -- ---- cells made a vector, marked 1
 module _ (vx vy : ℤ) where
   made : (mv : List ℤ) (marks : List ℕ) (k : ℕ) → k < length marks → 2 * k + 1 < length mv → cell_at (pair_set mv k vx vy) (set marks k 1) k ≡ Here (vector vx vy)
-  unfolding if◌then◌else◌
+  unfolding when◌then◌else◌
   made mv marks k h l = loaded mv marks k 1 vx vy h l
 
   -- a cell that has it keeps it

@@ -2,7 +2,7 @@
 -- Vectors are one list of numbers, horizontal then vertical for each 4 × 4 cell, the cells by rows; marks have one number for each cell.
 -- Assumes nothing.
 use Rattle.std.specs.Prelude.{◌&&◌, List, ℕ, zero, suc, ◌+◌, ◌-◌, ◌*◌, eqb, ltb, ℤ, pos, ◌+ℤ◌, ◌-ℤ◌, get_or}
-use Rattle.ints.specs.Z.{if◌then◌else◌, clamp_z, median_z}
+use Rattle.ints.specs.Z.{when◌then◌else◌, clamp_z, median_z}
 use Rattle.vectors.specs.declared.svq3_frame.Vector.{Vector}
 use Rattle.vectors.specs.declared.svq3_frame.Near.{Near}
 use Rattle.vectors.specs.declared.svq3_frame.Near.TheVariants.{Missing, Here}
@@ -15,14 +15,14 @@ vector x y = record { x = record { 0 = x }; y = record { 0 = y } }
 -- the vector of cell i: missing where it is marked 0
 unfoldable pub cell_at : List ℤ → List ℕ → ℕ → Near
 cell_at mv marks i =
-    if eqb (get_or marks i 0) 0
+    when eqb (get_or marks i 0) 0
     then Missing
     else Here (vector (get_or mv (2 * i) (pos 0)) (get_or mv (2 * i + 1) (pos 0)))
 
 -- the vector in column x of row y: missing off the picture or marked 0
 unfoldable pub near_at : Field → ℕ → ℕ → Near
 near_at f x y =
-    if ltb x (4 * f.cols) && ltb y (4 * f.rows)
+    when ltb x (4 * f.cols) && ltb y (4 * f.rows)
     then cell_at f.mv f.marks (y * (4 * f.cols) + x)
     else Missing
 
@@ -62,7 +62,7 @@ present (Here v) = 1
 -- none: 0; one: that one; more: the median, missing ones as 0
 unfoldable pub combined : Near → Near → Near → Vector
 combined a b c =
-    if ltb (present a + present b + present c) 2
+    when ltb (present a + present b + present c) 2
     then vector_of (or_else a (or_else b c))
     else median_of (vector_of a) (vector_of b) (vector_of c)
 

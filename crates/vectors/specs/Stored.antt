@@ -1,14 +1,14 @@
 -- A vector stored, marked 1, in each cell of a partition: wide × high cells from column x of row y on.
 -- Assumes nothing.
 use Rattle.std.specs.Prelude.{List, ℕ, ◌*◌, ◌%◌, eqb, ℤ}
-use Rattle.ints.specs.Z.{if◌then◌else◌}
+use Rattle.ints.specs.Z.{when◌then◌else◌}
 use Rattle.picture.specs.Painted.{painted}
 use Rattle.picture.specs.Picture.{filled}
 use Rattle.picture.specs.Field.{Field}
 
 -- horizontal at even columns of the list of numbers, vertical at odd ones
 unfoldable pub pair_of : ℤ → ℤ → ℕ → ℕ → ℤ
-pair_of vx vy r c = if eqb (c % 2) 0 then vx else vy
+pair_of vx vy r c = when eqb (c % 2) 0 then vx else vy
 
 -- vectors and marks by rows of `stride` cells, afterwards
 unfoldable pub stored_vectors : List ℤ → ℕ → ℕ → ℕ → ℕ → ℕ → ℤ → ℤ → List ℤ

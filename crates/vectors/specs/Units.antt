@@ -2,13 +2,13 @@
 -- Assumes nothing.
 use Rattle.std.specs.Prelude.{Bool, ◌||◌, ℕ, ℤ, pos, ◌+ℤ◌, ◌-ℤ◌, ◌*ℤ◌}
 use Rattle.std.specs.Int.Signed.{lt_z}
-use Rattle.ints.specs.Z.{if◌then◌else◌, floor_z, toward_zero, sat_z, over_z}
+use Rattle.ints.specs.Z.{when◌then◌else◌, floor_z, toward_zero, sat_z, over_z}
 use Rattle.vectors.specs.declared.svq3_mb.Svq3MvPrecision.{Svq3MvPrecision}
 use Rattle.vectors.specs.declared.svq3_mb.Svq3MvPrecision.TheVariants.{Fullpel, Halfpel, Thirdpel}
 
 -- v / 6 rounded: (v + 3) / 6, or (v - 2) / 6 below 0, toward zero
 unfoldable pub round_to_sixths : ℤ → ℤ
-round_to_sixths v = if lt_z v (pos 0) then toward_zero (v -ℤ pos 2) 6 else toward_zero (v +ℤ pos 3) 6
+round_to_sixths v = when lt_z v (pos 0) then toward_zero (v -ℤ pos 2) 6 else toward_zero (v +ℤ pos 3) 6
 
 -- a predictor in sixths as a number of the precision's units
 unfoldable pub convert_predictor : Svq3MvPrecision → ℤ → ℤ

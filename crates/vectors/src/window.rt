@@ -1,7 +1,7 @@
 // The cells that the partitions of a macroblock see, copied: so reading a macroblock changes no lent vector or mark.
 // The window has 6 × 5 cells by rows: the macroblock's 4 × 4, a column on either side and a row above.
 ghost use Rattle.std.specs.Prelude.{◌≡◌, true, ℕ, ◌+◌, ◌-◌, ◌*◌, ◌≤◌, ◌<◌, eqb, pos, length, get_or, set};
-ghost use Rattle.ints.specs.Z.{if◌then◌else◌};
+ghost use Rattle.ints.specs.Z.{when◌then◌else◌};
 ghost use Rattle.picture.specs.Painted.{Inside};
 ghost use Rattle.picture.specs.InnerPicture.{Within};
 ghost use Rattle.picture.specs.InnerRows.{row};
@@ -181,7 +181,7 @@ fn vector_at(near: &[i32; 60], i: usize) -> Vector
 // Cell c, or d where c is marked 0.
 fn marked_or(marked: &[u8; 30], c: usize, d: usize) -> usize
     requires { (c < 30) × (d < 30) }
-    ensures { (result < 30) × (result ≡ (if eqb (get_or marked.now c 0) 0 then d else c)) }
+    ensures { (result < 30) × (result ≡ (when eqb (get_or marked.now c 0) 0 then d else c)) }
 {
     if marked[c] == 0 { d } else { c }
 }

@@ -5,7 +5,7 @@ use Prim.Native.Nat.{ℕ, ◌<◌}
 use lib.Dec.{ltb, eqb, lit<}
 use borrow.Author.Rules.{rules}
 use borrow.Author.Tests.{lt-ltb, le-ltb}
-use Rattle.ints.specs.Z.{if◌then◌else◌}
+use Rattle.ints.specs.Z.{when◌then◌else◌}
 use Rattle.picture.proofs.Laws.{plane-inside}
 use Rattle.levels.specs.Pattern.{class_of}
 use Rattle.apply.specs.Blocks.{chroma_added}
@@ -21,7 +21,7 @@ add-square-requires c κs =
     )
 
 returns : tie.Need-returns
-unfolding chroma_added if◌then◌else◌
+unfolding chroma_added when◌then◌else◌
 returns c =
     let s = c.before.before.before.before.before.before.before.before.before.before.before in
     let a = s.args in
@@ -29,7 +29,7 @@ returns c =
     rw e (c.before.before.add-square.ensures ∙ sym (four-chroma a.plane a.grid.cols a.head a.levels.now a.pic.now s.requires.0.1))
 
 returns-2 : tie.Need-returns-2
-unfolding chroma_added if◌then◌else◌
+unfolding chroma_added when◌then◌else◌
 returns-2 c =
     let a = c.before.before.before.before.args in
     let e : ltb 0 (class_of a.head.pattern) ≡ false = ap (ltb 0) (sym c.before.chroma-class.ensures) ∙ le-ltb 0 _ c.if1.false in

@@ -7,7 +7,7 @@ use lib.ListN.{length}
 use Rattle.picture.specs.InnerRows.{rows, run}
 use Rattle.picture.proofs.Laws.{Row, inside-row, rows_more, rows-painted}
 use Rattle.compensation.specs.Formula.{along, formula}
-use Rattle.ints.specs.Z.{if◌then◌else◌}
+use Rattle.ints.specs.Z.{when◌then◌else◌}
 use Rattle.compensation.specs.InnerKernel.{four_at, four_row, four_block}
 use Rattle.compensation.proofs.kernel.copy_rows.Goals.{In-loop-r}
 use Rattle.compensation.proofs.kernel.copy_rows.Goals as goal
@@ -22,7 +22,7 @@ unfolding rows
 loop-r-init c = (omega arith, refl, refl)
 
 pub loop-r-preserved : goal.loop-r-preserved
-unfolding four_block four_row four_at formula along if◌then◌else◌ run
+unfolding four_block four_row four_at formula along when◌then◌else◌ run
 loop-r-preserved c =
     let a = c.args in
     let l = c.loop-r in
