@@ -1,3 +1,4 @@
+#![tactic(auto)]
 // A macroblock's record: what was read of it, as it goes to the transcript and comes back.
 ghost use Rattle.std.specs.Prelude.{◌≡◌};
 ghost use Rattle.record.specs.Record.{place_head, with_motion, with_residual};
