@@ -1,3 +1,4 @@
+#![tactic(auto)]
 // Asks the parts of the decoder what the published Rust was asked, and prints how many answers differ.
 // tools/reference/README.md has the list's form: records of a head of 32 bytes, the bytes given, the bytes answered.
 mod added;

@@ -1,2 +1,3 @@
+#![tactic(auto)]
 // One inter macroblock read from the bits.
 pub mod svq3_frame;

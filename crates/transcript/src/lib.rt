@@ -1,3 +1,4 @@
+#![tactic(auto)]
 // Records of a transcript: written, read back, checked.
 pub mod check;
 pub mod parse;

@@ -1,0 +1,82 @@
+-- `reading::svq3_frame::move_partition` makes `moved` of what was read before.
+use mathlib.Core.Path.{ap, ◌∙◌}
+use Prim.Native.Nat.{◌/◌, ◌≤◌, ◌<◌}
+use native.Mathlib.Omega.{arith}
+use borrow.Author.Rules.{rules}
+use lib.IntN.{nat_abs}
+use lib.ListN.{length-set}
+use Rattle.bits.specs.Code.{bit_value}
+use Rattle.vectors.proofs.Partitions.{num-most}
+use Rattle.vectors.specs.InnerWindow.{Part}
+use Rattle.vectors.proofs.Moves.{field-read}
+use Rattle.reading.proofs.Vectors.{value-most}
+use Rattle.reading.proofs.Partitions.{part_at, held_at, moved_at}
+use Rattle.reading.proofs.svq3_frame.move_partition.Goals.{After-predict_mv-from, After-store_partition_in}
+use Rattle.reading.proofs.svq3_frame.move_partition.Goals as goal
+
+part : (c : tie.After-predict-mv-arg2) → Part (c.before.before.before.before.partition-offset-x.result / 4) (c.before.before.before.partition-offset-y.result / 4) (c.before.before.before.before.before.before.partition-width.result / 4) (c.before.before.before.before.before.partition-height.result / 4)
+part c =
+    let s = c.before.before.before.before.before.before.before.before.before.before in
+    part_at s.args.motion s.args.i s.requires.0.0 s.requires.0.1 c.before.before.before.before.partition-offset-x.ensures c.before.before.before.partition-offset-y.ensures c.before.before.before.before.before.before.partition-width.ensures c.before.before.before.before.before.partition-height.ensures
+
+held : (c : After-predict_mv-from) → (nat_abs c.predict_mv-from.result.x.0 ≤ 393216) × (nat_abs c.predict_mv-from.result.y.0 ≤ 393216)
+held c =
+    held_at c.args.motion c.args.i c.requires.in_grid.0 c.requires.in_grid.1 c.partition-offset-x.ensures c.partition-offset-y.ensures c.partition-width.ensures c.partition-height.ensures
+    c.requires.vectors_len.1.1.follows c.predict_mv-from.ensures
+
+-- there are at most 16 partitions
+few : (c : After-store_partition_in) → c.args.i < 16
+few c = omega (arith, num-most c.args.motion.call.mode c.requires.in_grid.0.mode, c.requires.in_grid.1)
+
+pub bounds-vectors-i : goal.bounds-vectors-i
+bounds-vectors-i c = omega (arith, few c, c.requires.vectors_len.0)
+
+pub bounds-vectors-i-2 : goal.bounds-vectors-i-2
+bounds-vectors-i-2 c = simp length-set (omega (arith, few c, c.requires.vectors_len.0))
+
+pub overflow_add-result : goal.overflow_add-result
+overflow_add-result c = omega (arith, c.bit_value.ensures, value-most c.move_component-mx.result.clipped, c.requires.in_grid.2)
+
+pub overflow_add-result-2 : goal.overflow_add-result-2
+overflow_add-result-2 c = omega (arith, c.bit_value-2.ensures, c.bit_value.ensures, value-most c.move_component-mx.result.clipped, value-most c.move_component-my.result.clipped, c.requires.in_grid.2)
+
+pub returns : goal.returns
+returns c m t =
+    let a = c.args in
+    let mx = c.move_component-mx in
+    let my = c.move_component-my in
+    let st = c.store_partition_in in
+    moved_at a.motion a.i c.requires.in_grid.0 c.requires.in_grid.1 c.partition-offset-x.ensures c.partition-offset-y.ensures c.partition-width.ensures c.partition-height.ensures
+    a.dx.0 a.dy.0 m t c.predict_mv-from.ensures
+    (field-read _ c.struct_told-1.given.0.1 ∙ mx.ensures.value_value)
+    (field-read _ c.struct_told-2-1.given.0.1 ∙ my.ensures.value_value)
+    (c.bit_value.ensures ∙ ap bit_value mx.ensures.clipped_value)
+    (c.bit_value-2.ensures ∙ ap bit_value my.ensures.clipped_value)
+    st.ensures.near_after st.ensures.marked_after
+
+pub predict_mv-from-requires : goal.predict_mv-from-requires
+predict_mv-from-requires c = (c.requires.in_grid.0.within, part c)
+
+pub move_component-mx-requires : goal.move_component-mx-requires
+move_component-mx-requires c = (held (goal.at.move_component-mx-requires c).After-predict_mv-from).0
+
+pub move_component-my-requires : goal.move_component-my-requires
+move_component-my-requires c = (held (goal.at.move_component-my-requires c).After-predict_mv-from).1
+
+pub store_partition_in-requires : goal.store_partition_in-requires
+store_partition_in-requires c = part (goal.at.store_partition_in-requires c).After-grid-1
+
+pub overflow_mul-vx : goal.overflow_mul-vx
+overflow_mul-vx c = omega (arith, few c)
+
+pub offset_bounds-vectors-i : goal.offset_bounds-vectors-i
+offset_bounds-vectors-i c = omega (arith, few c)
+
+pub overflow_mul-vy : goal.overflow_mul-vy
+overflow_mul-vy c = omega (arith, few c)
+
+pub overflow_add-vy : goal.overflow_add-vy
+overflow_add-vy c = omega (arith, few c)
+
+pub offset_bounds-vectors-i-2 : goal.offset_bounds-vectors-i-2
+offset_bounds-vectors-i-2 c = omega (arith, few c)

@@ -1,0 +1,73 @@
+-- `reading::svq3_frame::read_vectors`: what is still to be read, joined to what was read, is the whole.
+use mathlib.Core.Path.{◌≡◌, refl, sym, ap, ◌∙◌}
+use Prim.Native.Nat.{◌-◌, ◌/◌, ◌<◌}
+use native.Mathlib.Omega.{arith}
+use borrow.Author.Rules.{rules}
+use lib.ListN.{length}
+use Rattle.bits.specs.Bits.{bit_list}
+use Rattle.vectors.specs.Modes.{partition_width, partition_height, num_motion_vectors}
+use Rattle.vectors.proofs.Partitions.{num-most}
+use Rattle.picture.specs.InnerField.{lent_field}
+use Rattle.vectors.proofs.Following.{macroblock-cells, follows-start}
+use Rattle.record.proofs.Padded.{length-no_vectors}
+use Rattle.reading.specs.Read.{Moving, at_first}
+use Rattle.reading.specs.InnerAnswers.{Holds}
+use Rattle.reading.proofs.Steps.{Going, begins, goes_on, stops, ends}
+use Rattle.reading.proofs.svq3_frame.read_vectors.Goals as goal
+
+-- gone: enum-known-so-far
+-- enum-known-so-far : tie.Need-enum-known-so-far invariant-loop decreases-loop
+-- enum-known-so-far c = search rules
+
+-- gone: enum-known-r
+-- enum-known-r : tie.Need-enum-known-r invariant-loop decreases-loop
+-- enum-known-r c = search rules
+
+-- gone: same-length
+-- same_length : tie.Need-same-length invariant-loop decreases-loop
+-- same_length c = c.before.before.before.before.read-partition.auto.0 ∙ c.before.before.before.before.before.before.before.before.before.loop.invariant.0 ∙ sym (ap length c.before.before.before.before.before.before.before.before.before.before.before.before.before.before.before.before.before.before.before.requires.1.2 ∙ length-no_vectors)
+
+-- gone: same-length-2
+-- same-length-2 : tie.Need-same-length-2 invariant-loop decreases-loop
+-- same-length-2 c = c.before.loop.invariant.0 ∙ sym (ap length c.before.before.before.before.before.before.before.before.before.before.before.requires.1.2 ∙ length-no_vectors)
+
+pub load_neighbours-requires : goal.load_neighbours-requires
+load_neighbours-requires c = record { window = record { numbers = refl; cells = refl }; cols_bound = (c.requires.in_grid.0.within.wide, c.requires.in_grid.0.within.down, omega (arith, c.requires.mv_len.0, c.requires.mv_len.1), macroblock-cells c.requires.in_grid.0.within c.requires.mv_len.1) }
+
+pub loop-i-init : goal.loop-i-init
+unfolding at_first
+loop-i-init c =
+    let a = c.args in
+    let f = lent_field a.motion.grid.cols a.motion.grid.rows a.mv.now a.marks.now in
+    (ap length c.requires.mv_len.2 ∙ length-no_vectors, (at_first f, begins a.motion c.num_motion_vectors-n.result (at_first f) (bit_list a.bits.now) a.at, record { count = refl; stored = c.requires.mv_len.2; follows = follows-start c.requires.in_grid.0.within c.requires.mv_len.0 c.requires.mv_len.1 c.load_neighbours.ensures (partition_width a.motion.call.mode / 4) (partition_height a.motion.call.mode / 4) }))
+
+pub read_partition-requires : goal.read_partition-requires
+unfolding at_first
+read_partition-requires c =
+    let l = c.loop-i in
+    let e = c.num_motion_vectors-n.ensures in
+    let among : l.i < num_motion_vectors c.args.motion.call.mode = omega (arith, c.loop-i-test.true, e) in
+    let few = num-most c.args.motion.call.mode c.requires.in_grid.0.mode in
+    record { in_grid = (c.requires.in_grid.0, among, omega (arith, among, few, l.invariant.1.1.few, l.invariant.1.2.count)); vectors_len = (l.invariant.0, (l.invariant.1.0, l.invariant.1.2)); bits_len_bound = c.requires.in_grid.1 }
+
+pub overflow_add-i : goal.overflow_add-i
+overflow_add-i c = omega (arith, c.loop-i-test.true, c.num_motion_vectors-n.type_inv)
+
+pub loop-i-smaller : goal.loop-i-smaller
+loop-i-smaller c = omega (arith, c.loop-i-test.true)
+
+pub loop-i-preserved : goal.loop-i-preserved
+loop-i-preserved c =
+    let l = c.loop-i in
+    let t = c.read_partition in
+    (t.auto.vectors ∙ l.invariant.0, goes_on _ l.invariant.1.1 _ (t.ensures l.invariant.1.0 l.invariant.1.2) _ _ c.loop-i-test.true c.in-Vectors.is)
+
+pub returns-in-Refused : goal.returns-in-Refused
+returns-in-Refused c =
+    let l = c.loop-i in
+    rw (← c.num_motion_vectors-n.ensures) (stops _ l.invariant.1.1 _ (c.read_partition.ensures l.invariant.1.0 l.invariant.1.2) _ _ c.loop-i-test.true c.in-Refused.is)
+
+pub returns : goal.returns
+returns c =
+    let l = c.loop-i in
+    rw (← c.num_motion_vectors-n.ensures) (ends _ l.invariant.1.1 _ _ c.loop-i-test.false l.invariant.1.2.count l.invariant.1.2.stored)

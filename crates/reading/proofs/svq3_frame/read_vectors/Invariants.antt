@@ -1,0 +1,24 @@
+-- `reading::svq3_frame::read_vectors`: what is still to be read, joined to what was read, is the whole.
+use mathlib.Core.Path.{◌≡◌, refl, sym, ap, ◌∙◌}
+use Prim.Native.Nat.{◌-◌, ◌/◌, ◌<◌}
+use native.Mathlib.Omega.{arith}
+use borrow.Author.Rules.{rules}
+use lib.ListN.{length}
+use Rattle.bits.specs.Bits.{bit_list}
+use Rattle.vectors.specs.Modes.{partition_width, partition_height, num_motion_vectors}
+use Rattle.vectors.proofs.Partitions.{num-most}
+use Rattle.picture.specs.InnerField.{lent_field}
+use Rattle.vectors.proofs.Following.{macroblock-cells, follows-start}
+use Rattle.record.proofs.Padded.{length-no_vectors}
+use Rattle.reading.specs.Read.{Moving, at_first}
+use Rattle.reading.specs.InnerAnswers.{Holds}
+use Rattle.reading.proofs.Steps.{Going, begins, goes_on, stops, ends}
+use Rattle.reading.proofs.svq3_frame.read_vectors.Given as goal
+
+abbrev pub invariant-loop-i : goal.invariant-loop-i
+invariant-loop-i l =
+    (length l.vectors ≡ 32) × ((m : Moving) × Going l.motion l.n (at_first (lent_field l.motion.grid.cols l.motion.grid.rows l.mv l.marks)) (bit_list l.bits) l.at l.i l.p m × Holds m l.motion l.clipped l.vectors l.near l.marked)
+
+abbrev pub decreases-loop-i : goal.decreases-loop-i
+decreases-loop-i l =
+    l.n - l.i

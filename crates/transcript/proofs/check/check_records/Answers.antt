@@ -1,0 +1,47 @@
+-- `transcript::check::check_records`: the records counted so far and those still to be read are all of them.
+use mathlib.Core.Path.{◌≡◌, sym, ◌∙◌}
+use Prim.Native.Nat.{ℕ, ◌+◌, ◌-◌}
+use native.Mathlib.Omega.{arith}
+use lib.ListN.{length, drop}
+use Rattle.refusal.specs.Got.{got}
+use Rattle.refusal.proofs.Lists.{Counting, counting, count-end, count-stop, count-on}
+use Rattle.record.specs.Record.{Record}
+use Rattle.record.specs.Parse.{parse_record}
+use Rattle.transcript.specs.Records.{records}
+use Rattle.transcript.specs.Check.{check_answer}
+use Rattle.transcript.specs.declared.check.CheckAnswer.TheVariants.{Records, Refused}
+use Rattle.transcript.proofs.Checks.{grid-takes, records-tally, record-read, not-record}
+use borrow.Author.Rules.{rules}
+use Rattle.transcript.proofs.check.check_records.Goals.{In-Record}
+use Rattle.transcript.proofs.check.check_records.Goals as goal
+
+-- what was read, of the definition
+found : (c : In-Record) → let a = c.args in
+    (r : Record) × (n : ℕ) × (parse_record a.grid.cols a.grid.rows (drop c.loop-at.at a.bytes.now) ≡ got r n) × (c.in-Record.next ≡ c.loop-at.at + n)
+found c = record-read c.loop-at.at _ _ (sym c.in-Record.is ∙ c.check_record.ensures)
+
+pub loop-at-smaller : goal.loop-at-smaller
+loop-at-smaller c =
+    let t = (grid-takes c.args.grid.cols c.args.grid.rows c.requires).takes (drop c.loop-at.at c.args.bytes.now) _ (found c).1 (found c).2 in
+    let h = c.loop-at-test.true in
+    omega (arith, (found c).3)
+
+pub loop-at-preserved : goal.loop-at-preserved
+loop-at-preserved c =
+    count-on c.loop-at.invariant (grid-takes c.args.grid.cols c.args.grid.rows c.requires) c.loop-at-test.true _ _ _ (found c).2 (found c).3
+
+pub returns-in-Refused : goal.returns-in-Refused
+returns-in-Refused c =
+    sym (count-stop c.loop-at.invariant (grid-takes c.args.grid.cols c.args.grid.rows c.requires) c.loop-at-test.true _ (not-record c.loop-at.at _ _ (sym c.in-Refused.is ∙ c.check_record.ensures)))
+
+pub returns : goal.returns
+returns c = sym (count-end c.loop-at.invariant c.loop-at-test.false)
+
+pub loop-at-init : goal.loop-at-init
+loop-at-init c = counting (records-tally _ _ c.args.bytes.now)
+
+pub check_record-requires : goal.check_record-requires
+check_record-requires c = tt
+
+pub overflow_add-count : goal.overflow_add-count
+overflow_add-count c = omega (arith, c.loop-at.invariant.there, c.loop-at.invariant.few)

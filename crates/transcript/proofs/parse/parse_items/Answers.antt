@@ -1,0 +1,53 @@
+-- `transcript::parse::parse_items`: what is still to be read, joined to what was read, is the whole.
+use mathlib.Core.Path.{◌≡◌, sym, ◌∙◌}
+use Prim.Native.Nat.{◌-◌}
+use native.Mathlib.Omega.{arith}
+use borrow.Author.Rules.{rules}
+use lib.ListN.{length}
+use Rattle.record.specs.Parse.{parse_item, parse_items}
+use Rattle.levels.proofs.Walks.{Going, begins, goes_on, stops, passes, ends}
+use Rattle.transcript.proofs.parse.parse_items.Goals as goal
+
+-- gone: same-length
+-- same_length : tie.Need-same-length invariant-loop decreases-loop
+-- same_length c = c.before.before.before.before.parse-item.auto.0 ∙ c.before.before.before.before.before.before.before.before.before.loop.invariant.1 ∙ sym c.before.before.before.before.before.before.before.before.before.before.before.requires
+
+-- gone: same-length-2
+-- same-length-2 : tie.Need-same-length-2 invariant-loop decreases-loop
+-- same-length-2 c = c.before.loop.invariant.1 ∙ sym c.before.before.before.requires
+
+pub loop-i-init : goal.loop-i-init
+loop-i-init c = let a = c.args in (begins parse_item a.pattern a.levels.now a.bytes.now a.at, c.requires)
+
+pub parse_item-requires : goal.parse_item-requires
+parse_item-requires c = (c.loop-i-test.true, c.loop-i.invariant.1)
+
+pub overflow_add-i : goal.overflow_add-i
+overflow_add-i c = omega (arith, c.loop-i-test.true)
+
+pub loop-i-smaller-in-End : goal.loop-i-smaller-in-End
+loop-i-smaller-in-End c = omega (arith, c.loop-i-test.true)
+
+pub loop-i-preserved-in-End : goal.loop-i-preserved-in-End
+unfolding parse_items
+loop-i-preserved-in-End c =
+    let l = c.loop-i in
+    let r = c.parse_item in
+    (goes_on parse_item _ l.invariant.0 _ _ _ c.loop-i-test.true (sym c.item_coded.ensures ∙ c.if-item_coded.true) c.in-End.is r.ensures, r.auto.levels ∙ l.invariant.1)
+
+pub returns-in-Refused : goal.returns-in-Refused
+unfolding parse_items
+returns-in-Refused c = stops parse_item _ c.loop-i.invariant.0 _ _ _ c.loop-i-test.true (sym c.item_coded.ensures ∙ c.if-item_coded.true) c.in-Refused.is c.parse_item.ensures
+
+pub loop-i-smaller : goal.loop-i-smaller
+loop-i-smaller c = omega (arith, c.group_end-i.ensures.on, c.loop-i-test.true)
+
+pub loop-i-preserved : goal.loop-i-preserved
+loop-i-preserved c = (passes parse_item _ c.loop-i.invariant.0 c.group_end-i.ensures (sym c.item_coded.ensures ∙ c.if-item_coded.false), c.loop-i.invariant.1)
+
+pub returns : goal.returns
+unfolding parse_items
+returns c = ends parse_item _ c.loop-i.invariant.0 c.loop-i-test.false
+
+pub group_end-i-requires : goal.group_end-i-requires
+group_end-i-requires c = c.loop-i-test.true

@@ -1,0 +1,46 @@
+-- `transcript::parse::read_signed_numbers`: the numbers that are stored, joined to those still to be read, are all of them.
+use mathlib.Core.Path.{◌≡◌, sym, ◌∙◌}
+use Prim.Native.Nat.{◌-◌}
+use native.Mathlib.Omega.{arith}
+use borrow.Author.Rules.{rules}
+use mir.Syntax.{w32}
+use mir.Val.{to_z, of_z}
+use Rattle.transcript.proofs.Reading.{Taking, taking, takes, take-stops, take_ends}
+use Rattle.transcript.proofs.parse.read_signed_numbers.Goals as goal
+
+-- gone: same-length
+-- same_length : tie.Need-same-length invariant-loop decreases-loop
+-- same_length c = c.before.before.before.before.before.loop.invariant.same
+
+-- gone: same-length-2
+-- same-length-2 : tie.Need-same-length-2 invariant-loop decreases-loop
+-- same-length-2 c = c.before.loop.invariant.same
+
+pub loop-i-init : goal.loop-i-init
+loop-i-init c = let a = c.args in taking a.out.now a.first a.count a.bytes.now a.at
+
+pub offset_bounds-out-first : goal.offset_bounds-out-first
+offset_bounds-out-first c = omega (arith, c.loop-i.invariant.same)
+
+pub bounds-out-first : goal.bounds-out-first
+bounds-out-first c = omega (arith, c.loop-i.invariant.same)
+
+pub loop-i-preserved : goal.loop-i-preserved
+loop-i-preserved c =
+    let z : to_z w32 (of_z w32 c.in-SignedNumber.v) ≡ c.in-SignedNumber.v = search rules in
+    takes c.loop-i.invariant _ _ _ z c.loop-i-test.true (sym c.in-SignedNumber.is ∙ c.read_signed_number.ensures)
+
+pub returns-in-Refused : goal.returns-in-Refused
+returns-in-Refused c = take-stops c.loop-i.invariant _ _ c.loop-i-test.true (sym c.in-Refused.is ∙ c.read_signed_number.ensures)
+
+pub returns : goal.returns
+returns c = take_ends c.loop-i.invariant c.loop-i-test.false
+
+pub read_signed_number-requires : goal.read_signed_number-requires
+read_signed_number-requires c = tt
+
+pub overflow_add-i : goal.overflow_add-i
+overflow_add-i c = omega arith
+
+pub loop-i-smaller : goal.loop-i-smaller
+loop-i-smaller c = omega arith

@@ -1,0 +1,62 @@
+-- `transcript::parse::store_received`: one number a turn, then the place that is not sent.
+use mathlib.Core.Path.{◌≡◌, refl, ◌∙◌}
+use Prim.Native.Nat.{◌≤◌, ◌-◌}
+use native.Mathlib.Omega.{arith}
+use borrow.Author.Rules.{rules}
+use lib.IntN.{pos}
+use lib.ListN.{length, take, get_or, length-set}
+use lib.Seq.{sets, take_all}
+use mir.Syntax.{w32}
+use mir.Val.{to_z, of_z}
+use Rattle.transcript.proofs.Sent.{stored-turn}
+use Rattle.transcript.proofs.Received.{all-stored, rest-stored}
+use Rattle.transcript.proofs.parse.store_received.Goals as goal
+
+pub loop-i-init : goal.loop-i-init
+loop-i-init c = (omega arith, refl, refl)
+
+pub loop-i-preserved : goal.loop-i-preserved
+loop-i-preserved c =
+    let a = c.args in
+    let l = c.loop-i in
+    let z : to_z w32 (of_z w32 (get_or a.t.now l.i (pos 0))) ≡ get_or a.t.now l.i (pos 0) = search rules in
+    (omega arith, simp length-set l.invariant.1, rw (z, l.invariant.2) (stored-turn (pos 0) a.out.now a.first a.t.now l.i (omega arith)))
+
+pub returns-then-start-eq1 : goal.returns-then-start-eq1
+returns-then-start-eq1 c =
+    let a = c.args in
+    let l = c.loop-i in
+    rw (l.invariant.2, take_all l.i a.t.now (omega arith)) (rest-stored a.out.now a.first a.t.now a.start (omega arith) (omega arith))
+
+pub returns-else-start-eq1 : goal.returns-else-start-eq1
+returns-else-start-eq1 c =
+    let a = c.args in
+    let l = c.loop-i in
+    l.invariant.2 ∙ rw (take_all l.i a.t.now (omega arith)) (all-stored a.out.now a.first a.t.now a.start (omega arith))
+
+pub offset_bounds-t-i : goal.offset_bounds-t-i
+offset_bounds-t-i c = omega arith
+
+pub bounds-t-i : goal.bounds-t-i
+bounds-t-i c = omega arith
+
+pub overflow_add-first : goal.overflow_add-first
+overflow_add-first c = omega arith
+
+pub offset_bounds-out-first : goal.offset_bounds-out-first
+offset_bounds-out-first c = omega arith
+
+pub bounds-out-first : goal.bounds-out-first
+bounds-out-first c = omega arith
+
+pub overflow_add-i : goal.overflow_add-i
+overflow_add-i c = omega arith
+
+pub loop-i-smaller : goal.loop-i-smaller
+loop-i-smaller c = omega arith
+
+pub offset_bounds-out-first-then-start-eq1 : goal.offset_bounds-out-first-then-start-eq1
+offset_bounds-out-first-then-start-eq1 c = omega arith
+
+pub slice_set_of-out : goal.slice_set_of-out
+slice_set_of-out c = simp length-set (omega arith)

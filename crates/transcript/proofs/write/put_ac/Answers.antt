@@ -1,0 +1,57 @@
+-- `transcript::write::put_ac`: the lists that are left, written at their place, give the whole.
+use mathlib.Core.Path.{◌≡◌, refl}
+use mathlib.Core.List.{List, ◌++◌}
+use Prim.Native.Nat.{ℕ, ◌+◌, ◌-◌, ◌*◌, ◌≤◌, ◌<◌}
+use native.Mathlib.Omega.{arith}
+use lib.Dec.{lit<}
+use lib.IntN.{ℤ}
+use lib.ListN.{take, drop}
+use Rattle.levels.specs.declared.svq3_coeff.ResidualBook.TheVariants.{NormalScan}
+use Rattle.record.specs.Write.{signed_numbers}
+use Rattle.record.specs.InnerSides.{side_bytes}
+use Rattle.transcript.proofs.Writing.{Still, still-all, still-fits, still-more, still-none, first-list, no-list}
+use Rattle.transcript.proofs.write.put_ac.Goals as goal
+
+-- ---- list i, and those behind it
+abbrev one : List ℤ → ℕ → List ℕ
+one ls i = signed_numbers (take 15 (drop (265 + 16 * i) ls))
+
+abbrev behind : List ℤ → ℕ → List ℕ
+behind ls i = side_bytes NormalScan 1 (8 - (i + 1)) (264 + 16 * (i + 1)) ls
+
+next-list : (ls : List ℤ) (i : ℕ) → i < 8 → side_bytes NormalScan 1 (8 - i) (264 + 16 * i) ls ≡ one ls i ++ behind ls i
+next-list ls i h =
+    let z : 264 + 16 * i + 1 ≡ 265 + 16 * i = omega arith in
+    rw z at (first-list NormalScan 1 ls 264 8 i 16 refl h)
+
+pub loop-i-init : goal.loop-i-init
+loop-i-init c = let a = c.args in (still-all a.out.now a.at _ _ refl, omega arith)
+
+pub put_list-p-requires : goal.put_list-p-requires
+put_list-p-requires c =
+    let l = c.loop-i in
+    let h = c.loop-i-test.true in
+    let ls = c.args.levels.now in
+    (lit< tt, omega (arith, h, c.requires.0), still-fits l.invariant.0 (one ls l.i) (behind ls l.i) (next-list ls l.i h) c.requires.1)
+
+pub loop-i-preserved : goal.loop-i-preserved
+loop-i-preserved c =
+    let ls = c.args.levels.now in
+    let l = c.loop-i in
+    let h = c.loop-i-test.true in
+    (still-more l.invariant.0 (next-list ls l.i h) c.put_list-p.ensures, omega (arith, h))
+
+pub returns : goal.returns
+returns c = still-none c.loop-i.invariant.0 (no-list NormalScan 1 c.args.levels.now _ 8 c.loop-i.i c.loop-i-test.false)
+
+pub overflow_mul-i : goal.overflow_mul-i
+overflow_mul-i c = omega arith
+
+pub overflow_add-i : goal.overflow_add-i
+overflow_add-i c = omega arith
+
+pub overflow_add-i-in-loop-i : goal.overflow_add-i-in-loop-i
+overflow_add-i-in-loop-i c = omega arith
+
+pub loop-i-smaller : goal.loop-i-smaller
+loop-i-smaller c = omega arith

@@ -1,0 +1,46 @@
+-- `transcript::write::put_items`: the lists that are left, written at their place, give the whole.
+use mathlib.Core.Path.{◌≡◌, refl, ◌∙◌}
+use Prim.Native.Nat.{◌+◌, ◌-◌, ◌*◌, ◌≤◌}
+use native.Mathlib.Omega.{arith}
+use Rattle.record.specs.Write.{items_bytes}
+use Rattle.transcript.proofs.Writing.{Still, still-all, still-fits, still-more, still-room, still-last, quadrant-bytes}
+use Rattle.transcript.proofs.write.put_items.Goals as goal
+
+-- gone: same-length
+-- same_length : tie.Need-same-length invariant-loop decreases-loop
+-- same_length c = c.before.before.put-chroma.auto.0 ∙ c.before.before.before.before.before.loop.invariant.0.same
+
+pub loop-q-init : goal.loop-q-init
+loop-q-init c = let a = c.args in (still-all a.out.now a.at _ _ refl, omega arith)
+
+pub put_quadrant-p-requires : goal.put_quadrant-p-requires
+put_quadrant-p-requires c =
+    let l = c.loop-q in
+    let h = c.loop-q-test.true in
+    let ls = c.args.levels.now in
+    (c.requires.0, h, still-fits l.invariant.0 (items_bytes 4 (4 * l.q) c.args.pattern ls) (items_bytes (26 - 4 * (l.q + 1)) (4 * (l.q + 1)) c.args.pattern ls) (quadrant-bytes c.args.pattern ls l.q h) c.requires.1)
+
+pub loop-q-preserved : goal.loop-q-preserved
+loop-q-preserved c =
+    let a = c.args in
+    let l = c.loop-q in
+    let h = c.loop-q-test.true in
+    (still-more l.invariant.0 (quadrant-bytes a.pattern a.levels.now l.q h) c.put_quadrant-p.ensures, omega (arith, h))
+
+pub put_chroma-requires : goal.put_chroma-requires
+put_chroma-requires c =
+    let l = c.loop-q in
+    let e : l.q ≡ 4 = omega (arith, c.loop-q-test.false, l.invariant.1) in
+    (c.requires.0, still-room (rw e at l.invariant.0) c.requires.1)
+
+pub returns : goal.returns
+returns c =
+    let l = c.loop-q in
+    let e : l.q ≡ 4 = omega (arith, c.loop-q-test.false, l.invariant.1) in
+    still-last (rw e at l.invariant.0) c.put_chroma.ensures
+
+pub overflow_add-q : goal.overflow_add-q
+overflow_add-q c = omega (arith, c.loop-q-test.true)
+
+pub loop-q-smaller : goal.loop-q-smaller
+loop-q-smaller c = omega (arith, c.loop-q-test.true)

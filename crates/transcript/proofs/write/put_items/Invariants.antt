@@ -1,0 +1,14 @@
+-- `transcript::write::put_items`: the lists that are left, written at their place, give the whole.
+use mathlib.Core.Path.{◌≡◌, refl, ◌∙◌}
+use Prim.Native.Nat.{◌+◌, ◌-◌, ◌*◌, ◌≤◌}
+use native.Mathlib.Omega.{arith}
+use Rattle.record.specs.Write.{items_bytes}
+use Rattle.transcript.proofs.Writing.{Still, still-all, still-fits, still-more, still-room, still-last, quadrant-bytes}
+use Rattle.transcript.proofs.write.put_items.Given as goal
+
+abbrev pub invariant-loop-q : goal.invariant-loop-q
+invariant-loop-q l =
+    Still l.initial.out l.at (items_bytes 26 0 l.pattern l.levels) l.out l.p (items_bytes (26 - 4 * l.q) (4 * l.q) l.pattern l.levels) × (l.q ≤ 4)
+
+abbrev pub decreases-loop-q : goal.decreases-loop-q
+decreases-loop-q l = 4 - l.q

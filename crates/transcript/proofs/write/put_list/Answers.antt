@@ -1,0 +1,17 @@
+-- `transcript::write::put_list`: short numbers are the bytes that they are sent as; others go the long way.
+use mathlib.Core.Path.{sym, ◌∙◌}
+use borrow.Author.Rules.{rules}
+use Rattle.transcript.proofs.Sent.{short-fits, short-written}
+use Rattle.transcript.proofs.write.put_list.Goals as goal
+
+pub put_short-requires : goal.put_short-requires
+put_short-requires c =
+    let s = c.take_held-t.ensures in
+    let e = sym c.all_short.ensures ∙ c.if-all_short.true in
+    (c.requires.0, s.size, short-fits c.args.numbers.now c.args.first c.args.count _ c.requires.1 c.requires.0 s e c.args.out.now c.args.at c.requires.2)
+
+pub returns-then-all_short : goal.returns-then-all_short
+returns-then-all_short c =
+    let s = c.take_held-t.ensures in
+    let e = sym c.all_short.ensures ∙ c.if-all_short.true in
+    short-written c.args.numbers.now c.args.first c.args.count _ c.requires.1 c.requires.0 s e c.args.out.now c.args.at c.put_short.ensures

@@ -1,0 +1,17 @@
+-- `transcript::write::put_short`: one byte a turn.
+use mathlib.Core.Path.{◌≡◌, refl}
+use Prim.Native.Nat.{◌≤◌, ◌-◌}
+use native.Mathlib.Omega.{arith}
+use borrow.Author.Rules.{rules}
+use mathlib.Core.List.{map}
+use lib.ListN.{length, take, length-set, length-map}
+use lib.Seq.{sets}
+use Rattle.transcript.specs.InnerSent.{sent_short}
+use Rattle.transcript.proofs.Sent.{sent-at, stored-turn}
+use Rattle.transcript.proofs.write.put_short.Given as goal
+
+abbrev pub invariant-loop-i : goal.invariant-loop-i
+invariant-loop-i l = (l.i ≤ l.count) × (length l.out ≡ length l.initial.out) × (l.out ≡ sets l.initial.out l.at (take l.i (map sent_short l.t)))
+
+abbrev pub decreases-loop-i : goal.decreases-loop-i
+decreases-loop-i l = l.count - l.i

@@ -1,0 +1,19 @@
+-- `transcript::write::put_signed_numbers`: the numbers that are left, written at their place, give the whole.
+use mathlib.Core.Path.{◌≡◌}
+use Prim.Native.Nat.{◌+◌, ◌-◌, ◌≤◌}
+use native.Mathlib.Omega.{arith}
+use borrow.Author.Rules.{rules}
+use lib.IntN.{pos}
+use lib.ListN.{get_or, take, drop}
+use mir.Syntax.{w32}
+use mir.Val.{to_z, of_z}
+use Rattle.record.specs.Write.{signed_numbers}
+use Rattle.transcript.proofs.Writing.{Still, still-all, still-none, number_fits, number_more, no-numbers}
+use Rattle.transcript.proofs.write.put_signed_numbers.Given as goal
+
+abbrev pub invariant-loop-i : goal.invariant-loop-i
+invariant-loop-i l =
+    Still l.initial.out l.at (signed_numbers (take l.count (drop l.first l.numbers))) l.out l.p (signed_numbers (take (l.count - l.i) (drop (l.first + l.i) l.numbers))) × (l.i ≤ l.count)
+
+abbrev pub decreases-loop-i : goal.decreases-loop-i
+decreases-loop-i l = l.count - l.i
