@@ -6,7 +6,7 @@ here=$(cd "$(dirname "$0")" && pwd)
 root=$(cd "$here/../.." && pwd)
 
 echo "Proving the printer and what it stands on: about 6 minutes on two cores, nothing where it was done before."
-"$root/tools/gate/prove.sh" printer
+"$root/tools/gate/program.sh" printer
 for input in example film; do
     echo
     echo "$input: $(od -An -v -tx1 "$here/$input" | tr -d '\n')"

@@ -12,5 +12,5 @@ rm -f "$published" "$out/fuzz"
 [ -f "$published" ] || exit 0
 
 mkdir -p "$out"
-"$root/tools/gate/prove.sh" printer
+"$root/tools/gate/program.sh" printer
 rustc --edition 2024 -O --extern published="$published" -o "$out/fuzz" "$here/src/main.rs"

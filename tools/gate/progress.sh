@@ -1,8 +1,8 @@
 #!/bin/sh
 # Says how far rt is, a line for each crate proved, each must-fail edit refused and each program run. All that rt prints goes to LOG.
 #
-#   rt check NAME.. 2>&1 | progress.sh LOG NAME..      of the crates named and those that they stand on
-#   rt ci 2>&1 | progress.sh LOG                       of all crates and all must-fail edits
+#   rt check 2>&1 | progress.sh LOG NAME..      in the folder of a crate: of the crates named and those that they stand on
+#   rt ci 2>&1 | progress.sh LOG                of all crates and all must-fail edits
 set -eu
 
 root=$(cd "$(dirname "$0")/../.." && pwd)
@@ -11,7 +11,7 @@ shift
 
 # The crates named and those that they stand on, or all; the kit's libraries are not counted.
 crates=$(awk -v names="$*" '
-    { sub(/#.*/, ""); if (split($0, side, ":") > 1) { name = side[1]; gsub(/ /, "", name); needs[name] = side[2]; all = all " " name } }
+    { sub(/#.*/, ""); if (split($0, side, ":") > 1) { name = side[1]; sub(/ .*/, "", name); needs[name] = side[2]; all = all " " name } }
     END {
         n = split(names == "" ? all : names, queue, " ")
         for (i = 1; i <= n; i++) {
@@ -37,18 +37,31 @@ so_far() {
 }
 
 : > "$log"
+name=
 while IFS= read -r line; do
     printf '%s\n' "$line" >> "$log"
     case $line in
-    'rt: '*' proved (unchanged '*) proved=$((proved + 1)) ;;
-    'rt: '*' proved ('*)
-        proved=$((proved + 1))
-        so_far "crate $proved of $crates: ${line#rt: }"
+    # of rt check
+    'rt: chose --jobs '*' for '*) name=${line##* for } ;;
+    'logic=proved'*)
+        if [ -n "$name" ]; then
+            proved=$((proved + 1))
+            so_far "crate $proved of $crates at most: $name proved"
+            name=
+        fi
         ;;
-    'rt: must-fail '*': refused, '*)
+    # of rt ci
+    'rt: must-fail '*': refused'*)
         refused=$((refused + 1))
         line=${line#rt: must-fail }
         so_far "must-fail edit $refused of $edits: ${line%%:*} refused"
+        ;;
+    'rt: '*': its tests proved' | 'rt: note: '* | 'rt: '*': begins with what '*) ;;
+    'rt: '*' NOT PROVED'*) so_far "${line#rt: }" ;;
+    'rt: '*' proved' | 'rt: '*' is kept: '*)
+        proved=$((proved + 1))
+        line=${line#rt: }
+        so_far "crate $proved of $crates: ${line%%:*}"
         ;;
     'rt: '*) printf '%s\n' "${line#rt: }" ;;
     esac

@@ -8,13 +8,13 @@ root=$(cd "$(dirname "$0")/../.." && pwd)
 log=$root/target/prove.log
 
 mkdir -p "$root/target"
-cd "$root"
-# A pipeline's status is that of its end: rt's own goes through a file.
-{
-    status=0
-    # rt starts its checks in batches and waits for the last of each: more of them than processors leaves none idle.
-    RT_JOBS=${RT_JOBS:-8} rt check "$@" 2>&1 || status=$?
-    echo "$status" > "$log.status"
-} | tools/gate/progress.sh "$log" "$@"
-status=$(cat "$log.status")
-[ "$status" -eq 0 ] || { cat "$log"; exit "$status"; }
+for name in "$@"; do
+    # A pipeline's status is that of its end: rt's own goes through a file.
+    {
+        status=0
+        (cd "$root/crates/$name" && rt check 2>&1) || status=$?
+        echo "$status" > "$log.status"
+    } | "$root/tools/gate/progress.sh" "$log" "$name"
+    status=$(cat "$log.status")
+    [ "$status" -eq 0 ] || { cat "$log"; exit "$status"; }
+done

@@ -16,7 +16,7 @@ reference=$root/target/reference/reference
 acceptance=$root/target/acceptance/acceptance
 
 mkdir -p "$out"
-"$root/tools/gate/prove.sh" printer
+"$root/tools/gate/program.sh" printer
 rm -f "$reference" "$acceptance"
 "$root/tools/acceptance/build.sh"
 
