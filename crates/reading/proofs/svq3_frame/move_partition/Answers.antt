@@ -11,17 +11,16 @@ use Rattle.vectors.specs.InnerWindow.{Part}
 use Rattle.vectors.proofs.Moves.{field-read}
 use Rattle.reading.proofs.Vectors.{value-most}
 use Rattle.reading.proofs.Partitions.{part_at, held_at, moved_at}
-use Rattle.reading.proofs.svq3_frame.move_partition.Goals.{After-predict_mv-from, After-store_partition_in}
+use Rattle.reading.proofs.svq3_frame.move_partition.Goals.{After-partition_offset_y-cy, After-predict_mv-from, After-store_partition_in}
 use Rattle.reading.proofs.svq3_frame.move_partition.Goals as goal
 
-part : (c : tie.After-predict-mv-arg2) → Part (c.before.before.before.before.partition-offset-x.result / 4) (c.before.before.before.partition-offset-y.result / 4) (c.before.before.before.before.before.before.partition-width.result / 4) (c.before.before.before.before.before.partition-height.result / 4)
+part : (c : After-partition_offset_y-cy) → Part (c.partition_offset_x-cx.result / 4) (c.partition_offset_y-cy.result / 4) (c.partition_width-wide.result / 4) (c.partition_height-high.result / 4)
 part c =
-    let s = c.before.before.before.before.before.before.before.before.before.before in
-    part_at s.args.motion s.args.i s.requires.0.0 s.requires.0.1 c.before.before.before.before.partition-offset-x.ensures c.before.before.before.partition-offset-y.ensures c.before.before.before.before.before.before.partition-width.ensures c.before.before.before.before.before.partition-height.ensures
+    part_at c.args.motion c.args.i c.requires.in_grid.0 c.requires.in_grid.1 c.partition_offset_x-cx.ensures c.partition_offset_y-cy.ensures c.partition_width-wide.ensures c.partition_height-high.ensures
 
 held : (c : After-predict_mv-from) → (nat_abs c.predict_mv-from.result.x.0 ≤ 393216) × (nat_abs c.predict_mv-from.result.y.0 ≤ 393216)
 held c =
-    held_at c.args.motion c.args.i c.requires.in_grid.0 c.requires.in_grid.1 c.partition-offset-x.ensures c.partition-offset-y.ensures c.partition-width.ensures c.partition-height.ensures
+    held_at c.args.motion c.args.i c.requires.in_grid.0 c.requires.in_grid.1 c.partition_offset_x-cx.ensures c.partition_offset_y-cy.ensures c.partition_width-wide.ensures c.partition_height-high.ensures
     c.requires.vectors_len.1.1.follows c.predict_mv-from.ensures
 
 -- there are at most 16 partitions
@@ -46,16 +45,16 @@ returns c m t =
     let mx = c.move_component-mx in
     let my = c.move_component-my in
     let st = c.store_partition_in in
-    moved_at a.motion a.i c.requires.in_grid.0 c.requires.in_grid.1 c.partition-offset-x.ensures c.partition-offset-y.ensures c.partition-width.ensures c.partition-height.ensures
+    moved_at a.motion a.i c.requires.in_grid.0 c.requires.in_grid.1 c.partition_offset_x-cx.ensures c.partition_offset_y-cy.ensures c.partition_width-wide.ensures c.partition_height-high.ensures
     a.dx.0 a.dy.0 m t c.predict_mv-from.ensures
-    (field-read _ c.struct_told-1.given.0.1 ∙ mx.ensures.value_value)
-    (field-read _ c.struct_told-2-1.given.0.1 ∙ my.ensures.value_value)
+    (field-read mx.result.value.0 (search rules) ∙ mx.ensures.value_value)
+    (field-read my.result.value.0 (search rules) ∙ my.ensures.value_value)
     (c.bit_value.ensures ∙ ap bit_value mx.ensures.clipped_value)
     (c.bit_value-2.ensures ∙ ap bit_value my.ensures.clipped_value)
     st.ensures.near_after st.ensures.marked_after
 
 pub predict_mv-from-requires : goal.predict_mv-from-requires
-predict_mv-from-requires c = (c.requires.in_grid.0.within, part c)
+predict_mv-from-requires c = (c.requires.in_grid.0.within, part (goal.at.predict_mv-from-requires c).After-partition_offset_y-cy)
 
 pub move_component-mx-requires : goal.move_component-mx-requires
 move_component-mx-requires c = (held (goal.at.move_component-mx-requires c).After-predict_mv-from).0
@@ -64,7 +63,7 @@ pub move_component-my-requires : goal.move_component-my-requires
 move_component-my-requires c = (held (goal.at.move_component-my-requires c).After-predict_mv-from).1
 
 pub store_partition_in-requires : goal.store_partition_in-requires
-store_partition_in-requires c = part (goal.at.store_partition_in-requires c).After-grid-1
+store_partition_in-requires c = part (goal.at.store_partition_in-requires c).After-partition_offset_y-cy
 
 pub overflow_mul-vx : goal.overflow_mul-vx
 overflow_mul-vx c = omega (arith, few c)

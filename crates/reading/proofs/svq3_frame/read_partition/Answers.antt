@@ -11,9 +11,8 @@ use Rattle.reading.proofs.svq3_frame.read_partition.Goals as goal
 pub returns-in-Pair : goal.returns-in-Pair
 returns-in-Pair c m t =
     let a = c.args in
-    let told = c.known_told-1.given in
     let both = pair_read_lem (bit_list a.bits.now) a.at c.in-Pair.dy c.in-Pair.dx c.in-Pair.next (sym c.in-Pair.is ∙ c.read_signed_pair.ensures) in
-    step-moved a.motion a.i m (bit_list a.bits.now) a.at _ _ both.first _ _ both.second _ _ (field-read c.in-Pair.dy told.0.1) (field-read c.in-Pair.dx told.1.0.1) _ (c.move_partition-so_far.ensures m t)
+    step-moved a.motion a.i m (bit_list a.bits.now) a.at _ _ both.first _ _ both.second _ _ (field-read c.in-Pair.dy (search rules)) (field-read c.in-Pair.dx (search rules)) _ (c.move_partition-so_far.ensures m t)
 
 pub returns-in-Refused : goal.returns-in-Refused
 returns-in-Refused c m t =

@@ -16,16 +16,16 @@ use Rattle.reading.proofs.svq3_frame.read_quantiser.Goals as goal
 exact : (c : In-Value) → let q = c.args.quantiser in let d = c.in-Value.d in read w64 (to_z w64 q +ℤ read w64 (read w32 d)) ≡ pos q +ℤ d
 exact c =
     let h : c.args.quantiser < 32 = omega (arith, c.requires.1) in
-    let f : mag c.in-Value.d < 2 ^ 31 = c.known_told-1.given.0.1 in
+    let f : mag c.in-Value.d < 2 ^ 31 = search rules in
     search reads depth 20
 
 pub overflow_cast-q-in-Value : goal.overflow_cast-q-in-Value
-overflow_cast-q-in-Value c = let f : mag c.in-Value.d < 2 ^ 31 = c.known_told-1.given.0.1 in search signed depth 20
+overflow_cast-q-in-Value c = let f : mag c.in-Value.d < 2 ^ 31 = search rules in search signed depth 20
 
 pub overflow_add-q : goal.overflow_add-q
 overflow_add-q c =
     let h : c.args.quantiser < 32 = omega (arith, c.requires.1) in
-    let f : mag c.in-Value.d < 2 ^ 31 = c.known_told-1.given.0.1 in
+    let f : mag c.in-Value.d < 2 ^ 31 = search rules in
     search signed depth 20
 
 pub returns-then-q : goal.returns-then-q

@@ -28,14 +28,5 @@ returns-in-Refused-read_quantiser c m e =
 pub returns-in-Refused : goal.returns-in-Refused
 returns-in-Refused c m e = let a = c.args in no-pattern a.delta a.quantiser a.motion.call a.motion.precision m (bit_list a.bits.now) a.at _ _ (sym c.in-Refused.is ∙ c.read_cbp_inter.ensures)
 
-pub read_cbp_inter-requires : goal.read_cbp_inter-requires
-read_cbp_inter-requires c = (ap length c.requires.0 ∙ length-no_levels, c.requires.1)
-
-pub read_quantiser-requires : goal.read_quantiser-requires
-read_quantiser-requires c = (ap length c.requires.0 ∙ length-no_levels, c.requires.1)
-
 pub read_items-requires : goal.read_items-requires
 read_items-requires c = (ap length c.requires.0 ∙ length-no_levels, c.requires.1)
-
-pub precision_number-requires : goal.precision_number-requires
-precision_number-requires c = (ap length c.requires.0 ∙ length-no_levels, c.requires.1)

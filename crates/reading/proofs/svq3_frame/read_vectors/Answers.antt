@@ -15,22 +15,6 @@ use Rattle.reading.specs.InnerAnswers.{Holds}
 use Rattle.reading.proofs.Steps.{Going, begins, goes_on, stops, ends}
 use Rattle.reading.proofs.svq3_frame.read_vectors.Goals as goal
 
--- gone: enum-known-so-far
--- enum-known-so-far : tie.Need-enum-known-so-far invariant-loop decreases-loop
--- enum-known-so-far c = search rules
-
--- gone: enum-known-r
--- enum-known-r : tie.Need-enum-known-r invariant-loop decreases-loop
--- enum-known-r c = search rules
-
--- gone: same-length
--- same_length : tie.Need-same-length invariant-loop decreases-loop
--- same_length c = c.before.before.before.before.read-partition.auto.0 ∙ c.before.before.before.before.before.before.before.before.before.loop.invariant.0 ∙ sym (ap length c.before.before.before.before.before.before.before.before.before.before.before.before.before.before.before.before.before.before.before.requires.1.2 ∙ length-no_vectors)
-
--- gone: same-length-2
--- same-length-2 : tie.Need-same-length-2 invariant-loop decreases-loop
--- same-length-2 c = c.before.loop.invariant.0 ∙ sym (ap length c.before.before.before.before.before.before.before.before.before.before.before.requires.1.2 ∙ length-no_vectors)
-
 pub load_neighbours-requires : goal.load_neighbours-requires
 load_neighbours-requires c = record { window = record { numbers = refl; cells = refl }; cols_bound = (c.requires.in_grid.0.within.wide, c.requires.in_grid.0.within.down, omega (arith, c.requires.mv_len.0, c.requires.mv_len.1), macroblock-cells c.requires.in_grid.0.within c.requires.mv_len.1) }
 
