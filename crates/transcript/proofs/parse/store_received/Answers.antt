@@ -33,30 +33,3 @@ returns-else-start-eq1 c =
     let a = c.args in
     let l = c.loop-i in
     l.invariant.2 ∙ rw (take_all l.i a.t.now (omega arith)) (all-stored a.out.now a.first a.t.now a.start (omega arith))
-
-pub offset_bounds-t-i : goal.offset_bounds-t-i
-offset_bounds-t-i c = omega arith
-
-pub bounds-t-i : goal.bounds-t-i
-bounds-t-i c = omega arith
-
-pub overflow_add-first : goal.overflow_add-first
-overflow_add-first c = omega arith
-
-pub offset_bounds-out-first : goal.offset_bounds-out-first
-offset_bounds-out-first c = omega arith
-
-pub bounds-out-first : goal.bounds-out-first
-bounds-out-first c = omega arith
-
-pub overflow_add-i : goal.overflow_add-i
-overflow_add-i c = omega arith
-
-pub loop-i-smaller : goal.loop-i-smaller
-loop-i-smaller c = omega arith
-
-pub offset_bounds-out-first-then-start-eq1 : goal.offset_bounds-out-first-then-start-eq1
-offset_bounds-out-first-then-start-eq1 c = omega arith
-
-pub slice_set_of-out : goal.slice_set_of-out
-slice_set_of-out c = simp length-set (omega arith)

@@ -11,14 +11,6 @@ use Rattle.record.specs.Write.{signed_numbers}
 use Rattle.transcript.proofs.Writing.{Still, still-all, still-none, number_fits, number_more, no-numbers}
 use Rattle.transcript.proofs.write.put_signed_numbers.Goals as goal
 
-shared-slice-copy-out-put-signed-number :
-    tie.Need-shared-slice-copy-out-put-signed-number invariant-loop decreases-loop
-shared-slice-copy-out-put-signed-number c = omega arith
-
--- gone: same-length
--- same_length : tie.Need-same-length invariant-loop decreases-loop
--- same_length c = c.before.loop.invariant.0.same
-
 pub loop-i-init : goal.loop-i-init
 loop-i-init c =
     let a = c.args in
