@@ -1,7 +1,7 @@
 -- The state that lent slices and numbers make, and the outcome that a function leaves in them.
 -- Assumes nothing.
 use Rattle.std.specs.Prelude.{List, ℕ, ℤ}
-use Rattle.std.specs.Borrow.{Bor}
+use Rattle.std.specs.Borrow.{Bor, MutBor}
 use denote.Triple.Both.{Both}
 use Rattle.state.specs.State.{State}
 use Rattle.macroblock.specs.Decode.{Outcome}
@@ -29,18 +29,21 @@ state_of frame quantiser ry rcb rcr y cb cr mv marks =
       marks = marks;
     }
 
--- a lent slice in an `ensures`: as it was at entry and as it is at exit
+-- a slice that is lent for reading, and one that is lent for writing, in an `ensures`: as it was at entry and as it is at exit
 abbrev pub Lent : Type 0 → Type 0
 Lent A = Both (Bor A) (Bor A)
 
+abbrev pub LentMut : Type 0 → Type 0
+LentMut A = Both (MutBor A) (MutBor A)
+
 -- the state that lent slices make: in a `requires`; in an `ensures` at entry; and at exit, where the reference is as it was
-abbrev pub state_now : Frame → ℕ → Bor (List ℕ) → Bor (List ℕ) → Bor (List ℕ) → Bor (List ℕ) → Bor (List ℕ) → Bor (List ℕ) → Bor (List ℤ) → Bor (List ℕ) → State
+abbrev pub state_now : Frame → ℕ → Bor (List ℕ) → Bor (List ℕ) → Bor (List ℕ) → MutBor (List ℕ) → MutBor (List ℕ) → MutBor (List ℕ) → MutBor (List ℤ) → MutBor (List ℕ) → State
 state_now frame quantiser ry rcb rcr y cb cr mv marks = state_of frame quantiser ry.now rcb.now rcr.now y.now cb.now cr.now mv.now marks.now
 
-abbrev pub state_before : Frame → ℕ → Lent (List ℕ) → Lent (List ℕ) → Lent (List ℕ) → Lent (List ℕ) → Lent (List ℕ) → Lent (List ℕ) → Lent (List ℤ) → Lent (List ℕ) → State
+abbrev pub state_before : Frame → ℕ → Lent (List ℕ) → Lent (List ℕ) → Lent (List ℕ) → LentMut (List ℕ) → LentMut (List ℕ) → LentMut (List ℕ) → LentMut (List ℤ) → LentMut (List ℕ) → State
 state_before frame quantiser ry rcb rcr y cb cr mv marks = state_now frame quantiser ry.entry rcb.entry rcr.entry y.entry cb.entry cr.entry mv.entry marks.entry
 
-abbrev pub state_after : Frame → ℕ → Lent (List ℕ) → Lent (List ℕ) → Lent (List ℕ) → Lent (List ℕ) → Lent (List ℕ) → Lent (List ℕ) → Lent (List ℤ) → Lent (List ℕ) → State
+abbrev pub state_after : Frame → ℕ → Lent (List ℕ) → Lent (List ℕ) → Lent (List ℕ) → LentMut (List ℕ) → LentMut (List ℕ) → LentMut (List ℕ) → LentMut (List ℤ) → LentMut (List ℕ) → State
 state_after frame quantiser ry rcb rcr y cb cr mv marks = state_now frame quantiser ry.entry rcb.entry rcr.entry y.exit cb.exit cr.exit mv.exit marks.exit
 
 -- the quantiser after an answer: a refused call keeps it

@@ -1,7 +1,7 @@
 -- Slices of the grid's lengths: contracts of inner functions.
 -- Assumes nothing.
 use Rattle.std.specs.Prelude.{◌≡◌, List, ℕ, ◌*◌, ℤ, length}
-use Rattle.std.specs.Borrow.{Bor}
+use Rattle.std.specs.Borrow.{Bor, MutBor}
 use Rattle.picture.specs.InnerPicture.{Sized}
 use Rattle.picture.specs.Picture.{cell_count}
 use Rattle.state.specs.declared.Lengths.{Lengths}
@@ -14,7 +14,7 @@ pub record AllSized (cols rows : ℕ) (l : Lengths) : Type 0 where
   pub reference : Sized cols rows l.ry l.rcb l.rcr
 
 -- the lengths of lent slices, in a `requires`
-abbrev pub lent_lengths : Bor (List ℕ) → Bor (List ℕ) → Bor (List ℕ) → Bor (List ℤ) → Bor (List ℕ) → Bor (List ℕ) → Bor (List ℕ) → Bor (List ℕ) → Lengths
+abbrev pub lent_lengths : MutBor (List ℕ) → MutBor (List ℕ) → MutBor (List ℕ) → MutBor (List ℤ) → MutBor (List ℕ) → Bor (List ℕ) → Bor (List ℕ) → Bor (List ℕ) → Lengths
 lent_lengths y cb cr mv marks ry rcb rcr =
     record {
       y = length y.now;

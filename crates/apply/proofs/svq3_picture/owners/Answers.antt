@@ -7,8 +7,7 @@ use lib.Dec.{T, eqb, eqb→eq}
 use Rattle.bits.proofs.Table.{every, at}
 use Rattle.vectors.specs.Modes.{partition_width, partition_height}
 use Rattle.apply.specs.InnerCells.{owner_of}
-use Rattle.apply.proofs.svq3_picture.owners.Statement.{statement}
-use Rattle.apply.proofs.svq3_picture.owners.Tie as tie
+use Rattle.apply.proofs.svq3_picture.owners.Goals as goal
 
 -- the digits of a word are right
 abbrev Right : ℕ → ℕ → Type 0
@@ -20,30 +19,6 @@ right w mode = every (λ d. every (λ c. eqb (w / 2 ^ (16 * d) / 2 ^ (4 * c) % 1
 known : (w mode m : ℕ) → mode ≡ m → T (right w m) → Right w mode
 known w mode m e t c d lc ld = rw e (eqb→eq _ _ (at (λ c. eqb (w / 2 ^ (16 * d) / 2 ^ (4 * c) % 16) (owner_of m c d)) 4 (at (λ d. every (λ c. eqb (w / 2 ^ (16 * d) / 2 ^ (4 * c) % 16) (owner_of m c d)) 4) 4 t d ld) c lc))
 
-returns : tie.Need-returns
-unfolding owner_of partition_width partition_height
-returns c = known _ c.before.args.mode 2 (omega (arith, c.match.keys1)) tt
-
-returns-2 : tie.Need-returns-2
-unfolding owner_of partition_width partition_height
-returns-2 c = known _ c.before.args.mode 3 (omega (arith, c.match.keys2)) tt
-
-returns-3 : tie.Need-returns-3
-unfolding owner_of partition_width partition_height
-returns-3 c = known _ c.before.args.mode 4 (omega (arith, c.match.keys3)) tt
-
-returns-4 : tie.Need-returns-4
-unfolding owner_of partition_width partition_height
-returns-4 c = known _ c.before.args.mode 5 (omega (arith, c.match.keys4)) tt
-
-returns-5 : tie.Need-returns-5
-unfolding owner_of partition_width partition_height
-returns-5 c = known _ c.before.args.mode 6 (omega (arith, c.match.keys5)) tt
-
-returns-6 : tie.Need-returns-6
-unfolding owner_of partition_width partition_height
-returns-6 c = known _ c.before.args.mode 7 (omega (arith, c.match.keys6)) tt
-
 -- a skip, and one partition alone
 alone : (mode : ℕ) → mode < 2 → Right 0 mode
 unfolding owner_of partition_width partition_height
@@ -51,8 +26,29 @@ alone zero h = known 0 0 0 refl tt
 alone (suc zero) h = known 0 1 1 refl tt
 alone (suc (suc m)) h = absurd (omega arith)
 
-returns-7 : tie.Need-returns-7
-returns-7 c = alone c.before.args.mode (omega (arith, c.match.rest, c.before.requires))
+pub returns-in-2 : goal.returns-in-2
+unfolding owner_of partition_width partition_height
+returns-in-2 c = known _ c.args.mode 2 (omega (arith, c.in-2.is)) tt
 
-pub owners-spec : {M : Type 1} → statement M
-owners-spec = tie.close (tie.spec returns returns-2 returns-3 returns-4 returns-5 returns-6 returns-7)
+pub returns-in-3 : goal.returns-in-3
+unfolding owner_of partition_width partition_height
+returns-in-3 c = known _ c.args.mode 3 (omega (arith, c.in-3.is)) tt
+
+pub returns-in-4 : goal.returns-in-4
+unfolding owner_of partition_width partition_height
+returns-in-4 c = known _ c.args.mode 4 (omega (arith, c.in-4.is)) tt
+
+pub returns-in-5 : goal.returns-in-5
+unfolding owner_of partition_width partition_height
+returns-in-5 c = known _ c.args.mode 5 (omega (arith, c.in-5.is)) tt
+
+pub returns-in-6 : goal.returns-in-6
+unfolding owner_of partition_width partition_height
+returns-in-6 c = known _ c.args.mode 6 (omega (arith, c.in-6.is)) tt
+
+pub returns-in-7 : goal.returns-in-7
+unfolding owner_of partition_width partition_height
+returns-in-7 c = known _ c.args.mode 7 (omega (arith, c.in-7.is)) tt
+
+pub returns-in_default : goal.returns-in_default
+returns-in_default c = alone c.args.mode (omega arith)
