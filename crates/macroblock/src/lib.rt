@@ -1,3 +1,4 @@
+#![tactic(auto)]
 // One inter macroblock, its mode given: asked, read, written, applied. The definition of a call is specs/Decode.antt.
 pub mod svq3_frame;
 

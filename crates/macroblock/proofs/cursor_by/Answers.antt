@@ -1,0 +1,9 @@
+-- `cursor_by` meets its contract: by the answer.
+use borrow.Author.Rules.{rules}
+use Rattle.macroblock.proofs.cursor_by.Goals as goal
+
+pub returns-in-Accepted : goal.returns-in-Accepted
+returns-in-Accepted c = rw c.in-Accepted.is
+
+pub returns-in-Refused : goal.returns-in-Refused
+returns-in-Refused c = rw c.in-Refused.is
