@@ -1,6 +1,5 @@
 -- `reading::svq3_frame::read_coded`: each part's answer, taken on to the whole.
 use mathlib.Core.Path.{sym, ◌∙◌}
-use borrow.Author.Rules.{rules}
 use Rattle.bits.specs.Bits.{bit_list}
 use Rattle.state.specs.State.{Context}
 use Rattle.reading.specs.InnerAnswers.{lent_context}

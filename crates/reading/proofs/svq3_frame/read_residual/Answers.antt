@@ -1,6 +1,5 @@
 -- `reading::svq3_frame::read_residual`: each part's answer, taken on to the whole.
 use mathlib.Core.Path.{sym, ap, ◌∙◌}
-use borrow.Author.Rules.{rules}
 use lib.ListN.{length}
 use Rattle.bits.specs.Bits.{bit_list}
 use Rattle.levels.proofs.Lists.{length-no_levels}

@@ -1,18 +1,12 @@
 -- `reading::svq3_frame::read_vectors`: what is still to be read, joined to what was read, is the whole.
-use mathlib.Core.Path.{◌≡◌, refl, sym, ap, ◌∙◌}
-use Prim.Native.Nat.{◌-◌, ◌/◌, ◌<◌}
-use native.Mathlib.Omega.{arith}
-use borrow.Author.Rules.{rules}
+use mathlib.Core.Path.{◌≡◌}
+use Prim.Native.Nat.{◌-◌}
 use lib.ListN.{length}
 use Rattle.bits.specs.Bits.{bit_list}
-use Rattle.vectors.specs.Modes.{partition_width, partition_height, num_motion_vectors}
-use Rattle.vectors.proofs.Partitions.{num-most}
 use Rattle.picture.specs.InnerField.{lent_field}
-use Rattle.vectors.proofs.Following.{macroblock-cells, follows-start}
-use Rattle.record.proofs.Padded.{length-no_vectors}
 use Rattle.reading.specs.Read.{Moving, at_first}
 use Rattle.reading.specs.InnerAnswers.{Holds}
-use Rattle.reading.proofs.Steps.{Going, begins, goes_on, stops, ends}
+use Rattle.reading.proofs.Steps.{Going}
 use Rattle.reading.proofs.svq3_frame.read_vectors.Given as goal
 
 abbrev pub invariant-loop-i : goal.invariant-loop-i
