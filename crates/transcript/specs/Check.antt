@@ -7,7 +7,6 @@ use Rattle.refusal.specs.declared.Refusal.TheVariants.{GridSize}
 use Rattle.state.specs.Questions.{grid_right}
 use Rattle.record.specs.Record.{Record}
 use Rattle.transcript.specs.Records.{records}
-use Rattle.transcript.specs.declared.check.RecordAnswer.TheVariants as one
 use Rattle.transcript.specs.declared.check.CheckAnswer.{CheckAnswer}
 use Rattle.transcript.specs.declared.check.CheckAnswer.TheVariants.{Records, Refused}
 

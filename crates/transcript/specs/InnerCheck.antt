@@ -5,7 +5,6 @@ use Rattle.refusal.specs.Got.{Got, got, refused}
 use Rattle.record.specs.Record.{Record}
 use Rattle.transcript.specs.declared.check.RecordAnswer.{RecordAnswer}
 use Rattle.transcript.specs.declared.check.RecordAnswer.TheVariants as one
-use Rattle.transcript.specs.declared.check.CheckAnswer.TheVariants.{Refused}
 
 -- of a record that is read from a place on: the place behind it
 abbrev pub record_answer : ℕ → Got Record → RecordAnswer

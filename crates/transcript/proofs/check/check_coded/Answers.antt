@@ -3,7 +3,6 @@ use mathlib.Core.Path.{refl}
 use Rattle.record.specs.Record.{no_vectors}
 use Rattle.levels.specs.Items.{no_levels}
 use Rattle.transcript.proofs.Checks.{rest_read, rest-refused}
-use borrow.Author.Rules.{rules}
 use Rattle.transcript.proofs.check.check_coded.Goals as goal
 
 pub parse_motion-requires : goal.parse_motion-requires

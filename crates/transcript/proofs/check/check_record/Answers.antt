@@ -4,7 +4,6 @@ use Rattle.transcript.proofs.Places.{not-read, skip_read, coded-read}
 use Rattle.transcript.specs.InnerCheck.{record_answer}
 use Rattle.transcript.specs.declared.check.RecordAnswer.TheVariants.{Record}
 use Rattle.transcript.proofs.Checks.{rest-answer}
-use borrow.Author.Rules.{rules}
 use Rattle.transcript.proofs.check.check_record.Goals as goal
 
 pub check_coded-requires : goal.check_coded-requires

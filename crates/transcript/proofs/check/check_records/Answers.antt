@@ -1,17 +1,13 @@
 -- `transcript::check::check_records`: the records counted so far and those still to be read are all of them.
 use mathlib.Core.Path.{◌≡◌, sym, ◌∙◌}
-use Prim.Native.Nat.{ℕ, ◌+◌, ◌-◌}
+use Prim.Native.Nat.{ℕ, ◌+◌}
 use native.Mathlib.Omega.{arith}
-use lib.ListN.{length, drop}
+use lib.ListN.{drop}
 use Rattle.refusal.specs.Got.{got}
-use Rattle.refusal.proofs.Lists.{Counting, counting, count-end, count-stop, count-on}
+use Rattle.refusal.proofs.Lists.{counting, count-end, count-stop, count-on}
 use Rattle.record.specs.Record.{Record}
 use Rattle.record.specs.Parse.{parse_record}
-use Rattle.transcript.specs.Records.{records}
-use Rattle.transcript.specs.Check.{check_answer}
-use Rattle.transcript.specs.declared.check.CheckAnswer.TheVariants.{Records, Refused}
 use Rattle.transcript.proofs.Checks.{grid-takes, records-tally, record-read, not-record}
-use borrow.Author.Rules.{rules}
 use Rattle.transcript.proofs.check.check_records.Goals.{In-Record}
 use Rattle.transcript.proofs.check.check_records.Goals as goal
 

@@ -1,17 +1,11 @@
 -- `transcript::check::check_records`: the records counted so far and those still to be read are all of them.
-use mathlib.Core.Path.{◌≡◌, sym, ◌∙◌}
-use Prim.Native.Nat.{ℕ, ◌+◌, ◌-◌}
-use native.Mathlib.Omega.{arith}
-use lib.ListN.{length, drop}
-use Rattle.refusal.specs.Got.{got}
-use Rattle.refusal.proofs.Lists.{Counting, counting, count-end, count-stop, count-on}
-use Rattle.record.specs.Record.{Record}
+use Prim.Native.Nat.{◌-◌}
+use lib.ListN.{length}
+use Rattle.refusal.proofs.Lists.{Counting}
 use Rattle.record.specs.Parse.{parse_record}
 use Rattle.transcript.specs.Records.{records}
 use Rattle.transcript.specs.Check.{check_answer}
 use Rattle.transcript.specs.declared.check.CheckAnswer.TheVariants.{Records, Refused}
-use Rattle.transcript.proofs.Checks.{grid-takes, records-tally, record-read, not-record}
-use borrow.Author.Rules.{rules}
 use Rattle.transcript.proofs.check.check_records.Given as goal
 
 abbrev pub invariant-loop-at : goal.invariant-loop-at

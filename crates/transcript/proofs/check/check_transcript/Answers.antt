@@ -2,7 +2,6 @@
 use mathlib.Core.Path.{sym, ◌∙◌}
 use Rattle.ints.specs.Z.{when◌then◌else◌}
 use Rattle.transcript.specs.Check.{checked}
-use borrow.Author.Rules.{rules}
 use Rattle.transcript.proofs.check.check_transcript.Goals as goal
 
 pub returns-then-grid_right : goal.returns-then-grid_right

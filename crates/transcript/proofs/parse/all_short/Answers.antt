@@ -1,6 +1,5 @@
 -- `transcript::parse::all_short`: one byte a turn.
 use mathlib.Core.Path.{◌≡◌, refl}
-use Prim.Native.Nat.{◌≤◌, ◌-◌}
 use native.Mathlib.Numerals.{add-one}
 use native.Mathlib.Omega.{arith}
 use Rattle.transcript.specs.InnerReceived.{short_received}

@@ -1,8 +1,6 @@
 -- `transcript::parse::all_short`: one byte a turn.
-use mathlib.Core.Path.{◌≡◌, refl}
+use mathlib.Core.Path.{◌≡◌}
 use Prim.Native.Nat.{◌≤◌, ◌-◌}
-use native.Mathlib.Numerals.{add-one}
-use native.Mathlib.Omega.{arith}
 use Rattle.transcript.specs.InnerReceived.{short_received}
 use Rattle.transcript.proofs.parse.all_short.Given as goal
 

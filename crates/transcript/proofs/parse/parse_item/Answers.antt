@@ -1,17 +1,12 @@
 -- `transcript::parse::parse_item`: sixteen short numbers are what their bytes stand for; others are read one after another.
 use mathlib.Core.Path.{sym, ◌∙◌}
 use native.Mathlib.Omega.{arith}
-use borrow.Author.Rules.{rules}
 use lib.ListN.{drop, length-set}
 use Rattle.levels.proofs.ListKinds.{start-most, start-in}
 use Rattle.levels.proofs.Lists.{within}
 use Rattle.transcript.proofs.Received.{short-ahead, short-there, short-left}
 use Rattle.transcript.proofs.Reading.{item-stored, item-left}
 use Rattle.transcript.proofs.parse.parse_item.Goals as goal
-
--- gone: same-length-2
--- same-length-2 : tie.Need-same-length-2
--- same-length-2 c = c.before.read-signed-numbers.auto.0 ∙ simp length-set
 
 pub overflow_sub-at : goal.overflow_sub-at
 overflow_sub-at c = let a = c.args in short-ahead a.bytes.now a.at _ (sym c.short_at.ensures ∙ c.if-short_at.true)
@@ -20,12 +15,11 @@ pub take_received-t-requires : goal.take_received-t-requires
 take_received-t-requires c = let a = c.args in short-there a.bytes.now a.at _ (sym c.short_at.ensures ∙ c.if-short_at.true)
 
 pub store_received-requires : goal.store_received-requires
-store_received-requires c =
-    (
-      omega (arith, start-most c.args.i, c.item_start-start.ensures),
-      c.take_received-t.ensures.size,
-      omega (arith, within c.args.i c.requires.0, c.item_place-place.ensures, c.item_count-count.ensures, c.if-count-eq16.true, c.requires.1),
-    )
+store_received-requires c = (
+  omega (arith, start-most c.args.i, c.item_start-start.ensures),
+  c.take_received-t.ensures.size,
+  omega (arith, within c.args.i c.requires.0, c.item_place-place.ensures, c.item_count-count.ensures, c.if-count-eq16.true, c.requires.1),
+)
 
 pub overflow_sub-result : goal.overflow_sub-result
 overflow_sub-result c = let a = c.args in short-ahead a.bytes.now a.at _ (sym c.short_at.ensures ∙ c.if-short_at.true)

@@ -1,20 +1,9 @@
 -- `transcript::parse::parse_items`: what is still to be read, joined to what was read, is the whole.
-use mathlib.Core.Path.{◌≡◌, sym, ◌∙◌}
-use Prim.Native.Nat.{◌-◌}
+use mathlib.Core.Path.{sym, ◌∙◌}
 use native.Mathlib.Omega.{arith}
-use borrow.Author.Rules.{rules}
-use lib.ListN.{length}
 use Rattle.record.specs.Parse.{parse_item, parse_items}
-use Rattle.levels.proofs.Walks.{Going, begins, goes_on, stops, passes, ends}
+use Rattle.levels.proofs.Walks.{begins, goes_on, stops, passes, ends}
 use Rattle.transcript.proofs.parse.parse_items.Goals as goal
-
--- gone: same-length
--- same_length : tie.Need-same-length invariant-loop decreases-loop
--- same_length c = c.before.before.before.before.parse-item.auto.0 ∙ c.before.before.before.before.before.before.before.before.before.loop.invariant.1 ∙ sym c.before.before.before.before.before.before.before.before.before.before.before.requires
-
--- gone: same-length-2
--- same-length-2 : tie.Need-same-length-2 invariant-loop decreases-loop
--- same-length-2 c = c.before.loop.invariant.1 ∙ sym c.before.before.before.requires
 
 pub loop-i-init : goal.loop-i-init
 loop-i-init c = let a = c.args in (begins parse_item a.pattern a.levels.now a.bytes.now a.at, c.requires)

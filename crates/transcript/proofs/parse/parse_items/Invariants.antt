@@ -1,11 +1,9 @@
 -- `transcript::parse::parse_items`: what is still to be read, joined to what was read, is the whole.
-use mathlib.Core.Path.{◌≡◌, sym, ◌∙◌}
+use mathlib.Core.Path.{◌≡◌}
 use Prim.Native.Nat.{◌-◌}
-use native.Mathlib.Omega.{arith}
-use borrow.Author.Rules.{rules}
 use lib.ListN.{length}
-use Rattle.record.specs.Parse.{parse_item, parse_items}
-use Rattle.levels.proofs.Walks.{Going, begins, goes_on, stops, passes, ends}
+use Rattle.record.specs.Parse.{parse_item}
+use Rattle.levels.proofs.Walks.{Going}
 use Rattle.transcript.proofs.parse.parse_items.Given as goal
 
 abbrev pub invariant-loop-i : goal.invariant-loop-i

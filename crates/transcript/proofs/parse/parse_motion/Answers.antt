@@ -4,7 +4,6 @@ use native.Mathlib.Omega.{arith}
 use lib.ListN.{length}
 use Rattle.record.proofs.Padded.{used-most, length-no_vectors}
 use Rattle.transcript.proofs.Parsings.{no-precision, no-clipped, no-vectors, with-vectors}
-use borrow.Author.Rules.{rules}
 use Rattle.transcript.proofs.parse.parse_motion.Goals as goal
 
 pub overflow_mul-used : goal.overflow_mul-used

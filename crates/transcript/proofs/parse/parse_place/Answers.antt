@@ -1,7 +1,6 @@
 -- `transcript::parse::parse_place`: each number's answer, taken on to the whole.
 use mathlib.Core.Path.{sym, ◌∙◌}
 use Rattle.transcript.proofs.Places.{no-column, no_row, no_mode, outside, is-skip, is-coded}
-use borrow.Author.Rules.{rules}
 use Rattle.transcript.proofs.parse.parse_place.Goals as goal
 
 pub returns-in_default : goal.returns-in_default

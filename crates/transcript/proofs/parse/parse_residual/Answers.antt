@@ -5,7 +5,6 @@ use lib.Dec.{lit<}
 use lib.ListN.{length}
 use Rattle.levels.proofs.Lists.{length-no_levels}
 use Rattle.transcript.proofs.Parsings.{field-most, no-pattern, no-quantiser, no-levels, with-levels}
-use borrow.Author.Rules.{rules}
 use Rattle.transcript.proofs.parse.parse_residual.Goals as goal
 
 pub overflow_cast-pattern : goal.overflow_cast-pattern

@@ -1,7 +1,6 @@
 -- `transcript::parse::read_field` answers `field`: what `read_number` answered, where it is at most the limit.
 use mathlib.Core.Path.{sym, ◌∙◌}
 use Rattle.transcript.proofs.Reading.{field-within, field-beyond, field-refused}
-use borrow.Author.Rules.{rules}
 use Rattle.transcript.proofs.parse.read_field.Goals as goal
 
 pub returns-then-v-most : goal.returns-then-v-most

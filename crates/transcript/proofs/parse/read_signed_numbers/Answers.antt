@@ -1,20 +1,11 @@
 -- `transcript::parse::read_signed_numbers`: the numbers that are stored, joined to those still to be read, are all of them.
 use mathlib.Core.Path.{◌≡◌, sym, ◌∙◌}
-use Prim.Native.Nat.{◌-◌}
 use native.Mathlib.Omega.{arith}
 use borrow.Author.Rules.{rules}
 use mir.Syntax.{w32}
 use mir.Val.{to_z, of_z}
-use Rattle.transcript.proofs.Reading.{Taking, taking, takes, take-stops, take_ends}
+use Rattle.transcript.proofs.Reading.{taking, takes, take-stops, take_ends}
 use Rattle.transcript.proofs.parse.read_signed_numbers.Goals as goal
-
--- gone: same-length
--- same_length : tie.Need-same-length invariant-loop decreases-loop
--- same_length c = c.before.before.before.before.before.loop.invariant.same
-
--- gone: same-length-2
--- same-length-2 : tie.Need-same-length-2 invariant-loop decreases-loop
--- same-length-2 c = c.before.loop.invariant.same
 
 pub loop-i-init : goal.loop-i-init
 loop-i-init c = let a = c.args in taking a.out.now a.first a.count a.bytes.now a.at

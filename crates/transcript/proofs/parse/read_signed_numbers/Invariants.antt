@@ -1,11 +1,6 @@
 -- `transcript::parse::read_signed_numbers`: the numbers that are stored, joined to those still to be read, are all of them.
-use mathlib.Core.Path.{◌≡◌, sym, ◌∙◌}
 use Prim.Native.Nat.{◌-◌}
-use native.Mathlib.Omega.{arith}
-use borrow.Author.Rules.{rules}
-use mir.Syntax.{w32}
-use mir.Val.{to_z, of_z}
-use Rattle.transcript.proofs.Reading.{Taking, taking, takes, take-stops, take_ends}
+use Rattle.transcript.proofs.Reading.{Taking}
 use Rattle.transcript.proofs.parse.read_signed_numbers.Given as goal
 
 abbrev pub invariant-loop-i : goal.invariant-loop-i

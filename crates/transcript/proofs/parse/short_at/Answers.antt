@@ -1,7 +1,6 @@
 -- `transcript::parse::short_at`: whether the bytes are there, then whether each is short.
 use mathlib.Core.Path.{◌∙◌}
 use native.Mathlib.Omega.{arith}
-use borrow.Author.Rules.{rules}
 use Rattle.transcript.proofs.Received.{short-before, short-beyond, short-within}
 use Rattle.transcript.proofs.parse.short_at.Goals as goal
 

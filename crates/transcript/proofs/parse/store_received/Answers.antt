@@ -1,11 +1,10 @@
 -- `transcript::parse::store_received`: one number a turn, then the place that is not sent.
 use mathlib.Core.Path.{◌≡◌, refl, ◌∙◌}
-use Prim.Native.Nat.{◌≤◌, ◌-◌}
 use native.Mathlib.Omega.{arith}
 use borrow.Author.Rules.{rules}
 use lib.IntN.{pos}
-use lib.ListN.{length, take, get_or, length-set}
-use lib.Seq.{sets, take_all}
+use lib.ListN.{get_or, length-set}
+use lib.Seq.{take_all}
 use mir.Syntax.{w32}
 use mir.Val.{to_z, of_z}
 use Rattle.transcript.proofs.Sent.{stored-turn}

@@ -1,6 +1,5 @@
 -- `transcript::write::all_short`: one number a turn.
 use mathlib.Core.Path.{◌≡◌, refl}
-use Prim.Native.Nat.{◌≤◌, ◌-◌}
 use native.Mathlib.Numerals.{add-one}
 use native.Mathlib.Omega.{arith}
 use Rattle.transcript.specs.InnerSent.{short_sent}

@@ -1,8 +1,6 @@
 -- `transcript::write::all_short`: one number a turn.
-use mathlib.Core.Path.{◌≡◌, refl}
+use mathlib.Core.Path.{◌≡◌}
 use Prim.Native.Nat.{◌≤◌, ◌-◌}
-use native.Mathlib.Numerals.{add-one}
-use native.Mathlib.Omega.{arith}
 use Rattle.transcript.specs.InnerSent.{short_sent}
 use Rattle.transcript.proofs.write.all_short.Given as goal
 

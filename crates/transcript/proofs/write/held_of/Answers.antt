@@ -1,7 +1,6 @@
 -- `transcript::write::held_of`: the sum is `held_of`.
 use mathlib.Core.Path.{◌≡◌, refl, ap, ◌∙◌}
 use native.Mathlib.Omega.{arith}
-use borrow.Author.Rules.{rules}
 use lib.IntN.{ℤ, pos, negsuc, nat_abs, ◌+ℤ◌}
 use mir.Syntax.{w32}
 use Rattle.ints.specs.Z.{clamp_z}

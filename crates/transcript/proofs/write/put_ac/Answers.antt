@@ -1,7 +1,7 @@
 -- `transcript::write::put_ac`: the lists that are left, written at their place, give the whole.
 use mathlib.Core.Path.{◌≡◌, refl}
 use mathlib.Core.List.{List, ◌++◌}
-use Prim.Native.Nat.{ℕ, ◌+◌, ◌-◌, ◌*◌, ◌≤◌, ◌<◌}
+use Prim.Native.Nat.{ℕ, ◌+◌, ◌-◌, ◌*◌, ◌<◌}
 use native.Mathlib.Omega.{arith}
 use lib.Dec.{lit<}
 use lib.IntN.{ℤ}
@@ -9,7 +9,7 @@ use lib.ListN.{take, drop}
 use Rattle.levels.specs.declared.svq3_coeff.ResidualBook.TheVariants.{NormalScan}
 use Rattle.record.specs.Write.{signed_numbers}
 use Rattle.record.specs.InnerSides.{side_bytes}
-use Rattle.transcript.proofs.Writing.{Still, still-all, still-fits, still-more, still-none, first-list, no-list}
+use Rattle.transcript.proofs.Writing.{still-all, still-fits, still-more, still-none, first-list, no-list}
 use Rattle.transcript.proofs.write.put_ac.Goals as goal
 
 -- ---- list i, and those behind it

@@ -1,14 +1,14 @@
 -- `transcript::write::put_blocks`: the lists that are left, written at their place, give the whole.
 use mathlib.Core.Path.{◌≡◌, refl}
 use mathlib.Core.List.{List, ◌++◌}
-use Prim.Native.Nat.{ℕ, ◌+◌, ◌-◌, ◌*◌, ◌≤◌, ◌<◌}
+use Prim.Native.Nat.{ℕ, ◌+◌, ◌-◌, ◌*◌, ◌<◌}
 use native.Mathlib.Omega.{arith}
 use lib.IntN.{ℤ}
 use lib.ListN.{take, drop}
 use Rattle.levels.specs.declared.svq3_coeff.ResidualBook.TheVariants.{NormalScan}
 use Rattle.record.specs.Write.{signed_numbers}
 use Rattle.record.specs.InnerSides.{side_bytes}
-use Rattle.transcript.proofs.Writing.{Still, still-all, still-fits, still-more, still-none, first-list, no-list}
+use Rattle.transcript.proofs.Writing.{still-all, still-fits, still-more, still-none, first-list, no-list}
 use Rattle.transcript.proofs.write.put_blocks.Goals as goal
 
 abbrev one : List ℤ → ℕ → ℕ → List ℕ
@@ -21,10 +21,6 @@ next-list : (ls : List ℤ) (place i : ℕ) → i < 4 → side_bytes NormalScan 
 next-list ls place i h =
     let z : place + 16 * i + 0 ≡ place + 16 * i = omega arith in
     rw z at (first-list NormalScan 0 ls place 4 i 16 refl h)
-
--- gone: same-length
--- same_length : tie.Need-same-length invariant-loop decreases-loop
--- same_length c = c.before.loop.invariant.0.same
 
 pub loop-i-init : goal.loop-i-init
 loop-i-init c =

@@ -9,7 +9,6 @@ use Rattle.record.specs.InnerRecord.{record_of}
 use Rattle.record.specs.Write.{rest_bytes, record_bytes}
 use Rattle.record.proofs.Lengths.{record-length}
 use Rattle.transcript.proofs.Writing.{Due, due_all, due-fits, due-next, due-number, due-none, coded-parts}
-use borrow.Author.Rules.{rules}
 use Rattle.transcript.proofs.write.put_coded.Goals.{Start}
 use Rattle.transcript.proofs.write.put_coded.Goals as goal
 

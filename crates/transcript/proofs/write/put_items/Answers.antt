@@ -1,14 +1,10 @@
 -- `transcript::write::put_items`: the lists that are left, written at their place, give the whole.
-use mathlib.Core.Path.{◌≡◌, refl, ◌∙◌}
-use Prim.Native.Nat.{◌+◌, ◌-◌, ◌*◌, ◌≤◌}
+use mathlib.Core.Path.{◌≡◌, refl}
+use Prim.Native.Nat.{◌+◌, ◌-◌, ◌*◌}
 use native.Mathlib.Omega.{arith}
 use Rattle.record.specs.Write.{items_bytes}
-use Rattle.transcript.proofs.Writing.{Still, still-all, still-fits, still-more, still-room, still-last, quadrant-bytes}
+use Rattle.transcript.proofs.Writing.{still-all, still-fits, still-more, still-room, still-last, quadrant-bytes}
 use Rattle.transcript.proofs.write.put_items.Goals as goal
-
--- gone: same-length
--- same_length : tie.Need-same-length invariant-loop decreases-loop
--- same_length c = c.before.before.put-chroma.auto.0 ∙ c.before.before.before.before.before.loop.invariant.0.same
 
 pub loop-q-init : goal.loop-q-init
 loop-q-init c = let a = c.args in (still-all a.out.now a.at _ _ refl, omega arith)

@@ -1,9 +1,7 @@
 -- `transcript::write::put_items`: the lists that are left, written at their place, give the whole.
-use mathlib.Core.Path.{◌≡◌, refl, ◌∙◌}
-use Prim.Native.Nat.{◌+◌, ◌-◌, ◌*◌, ◌≤◌}
-use native.Mathlib.Omega.{arith}
+use Prim.Native.Nat.{◌-◌, ◌*◌, ◌≤◌}
 use Rattle.record.specs.Write.{items_bytes}
-use Rattle.transcript.proofs.Writing.{Still, still-all, still-fits, still-more, still-room, still-last, quadrant-bytes}
+use Rattle.transcript.proofs.Writing.{Still}
 use Rattle.transcript.proofs.write.put_items.Given as goal
 
 abbrev pub invariant-loop-q : goal.invariant-loop-q

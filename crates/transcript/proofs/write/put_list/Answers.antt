@@ -1,6 +1,5 @@
 -- `transcript::write::put_list`: short numbers are the bytes that they are sent as; others go the long way.
 use mathlib.Core.Path.{sym, ◌∙◌}
-use borrow.Author.Rules.{rules}
 use Rattle.transcript.proofs.Sent.{short-fits, short-written}
 use Rattle.transcript.proofs.write.put_list.Goals as goal
 

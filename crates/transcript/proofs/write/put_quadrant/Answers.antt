@@ -2,7 +2,6 @@
 use mathlib.Core.Path.{sym, ◌∙◌}
 use Prim.Native.Nat.{◌*◌}
 use native.Mathlib.Omega.{arith}
-use borrow.Author.Rules.{rules}
 use Rattle.levels.proofs.Sides.{luma-side, luma-coded, luma-place}
 use Rattle.record.proofs.SideBytes.{side-written, side-unwritten}
 use Rattle.transcript.proofs.Writing.{written_none}

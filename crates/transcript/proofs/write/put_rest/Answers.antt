@@ -12,7 +12,6 @@ use Rattle.record.specs.InnerRecord.{record_of}
 use Rattle.record.specs.Write.{signed_numbers, items_bytes, rest_bytes}
 use Rattle.record.proofs.Padded.{used-most}
 use Rattle.transcript.proofs.Writing.{Due, due_all, due-fits, due-next, due-number, due-none, rest-parts}
-use borrow.Author.Rules.{rules}
 use Rattle.transcript.proofs.write.put_rest.Goals.{After-put_signed_numbers-p, Start}
 use Rattle.transcript.proofs.write.put_rest.Goals as goal
 
@@ -57,10 +56,11 @@ pub overflow_mul-num_motion_vectors : goal.overflow_mul-num_motion_vectors
 overflow_mul-num_motion_vectors c = omega (arith, c.num_motion_vectors.ensures, used-most c.args.head.mode c.requires.0.mode)
 
 pub put_signed_numbers-p-requires : goal.put_signed_numbers-p-requires
-put_signed_numbers-p-requires c =
-    (omega (arith, c.num_motion_vectors.ensures, used-most c.args.head.mode c.requires.0.mode, c.requires.1),
-      rw (numbers c.args.vectors.now c.num_motion_vectors.ensures)
-      (due-fits (due-number (due-number (d1 (goal.at.put_signed_numbers-p-requires c).Start) c.put_number-p.ensures) c.put_number-p-2.ensures) c.requires.3))
+put_signed_numbers-p-requires c = (
+  omega (arith, c.num_motion_vectors.ensures, used-most c.args.head.mode c.requires.0.mode, c.requires.1),
+  rw (numbers c.args.vectors.now c.num_motion_vectors.ensures)
+      (due-fits (due-number (due-number (d1 (goal.at.put_signed_numbers-p-requires c).Start) c.put_number-p.ensures) c.put_number-p-2.ensures) c.requires.3),
+)
 
 pub put_number-p-requires-3 : goal.put_number-p-requires-3
 put_number-p-requires-3 c = due-fits (d4 (goal.at.put_number-p-requires-3 c).After-put_signed_numbers-p) c.requires.3

@@ -1,18 +1,11 @@
 -- `transcript::write::put_short`: one byte a turn.
 use mathlib.Core.Path.{◌≡◌, refl}
-use Prim.Native.Nat.{◌≤◌, ◌-◌}
 use native.Mathlib.Omega.{arith}
-use borrow.Author.Rules.{rules}
 use mathlib.Core.List.{map}
-use lib.ListN.{length, take, length-set, length-map}
-use lib.Seq.{sets}
+use lib.ListN.{length-set, length-map}
 use Rattle.transcript.specs.InnerSent.{sent_short}
 use Rattle.transcript.proofs.Sent.{sent-at, stored-turn}
 use Rattle.transcript.proofs.write.put_short.Goals as goal
-
--- gone: same-length
--- same_length : tie.Need-same-length invariant-loop decreases-loop
--- same_length c = omega arith
 
 pub loop-i-init : goal.loop-i-init
 loop-i-init c = (omega arith, refl, refl)

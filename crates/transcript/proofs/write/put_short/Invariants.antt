@@ -1,13 +1,10 @@
 -- `transcript::write::put_short`: one byte a turn.
-use mathlib.Core.Path.{◌≡◌, refl}
+use mathlib.Core.Path.{◌≡◌}
 use Prim.Native.Nat.{◌≤◌, ◌-◌}
-use native.Mathlib.Omega.{arith}
-use borrow.Author.Rules.{rules}
 use mathlib.Core.List.{map}
-use lib.ListN.{length, take, length-set, length-map}
+use lib.ListN.{length, take}
 use lib.Seq.{sets}
 use Rattle.transcript.specs.InnerSent.{sent_short}
-use Rattle.transcript.proofs.Sent.{sent-at, stored-turn}
 use Rattle.transcript.proofs.write.put_short.Given as goal
 
 abbrev pub invariant-loop-i : goal.invariant-loop-i

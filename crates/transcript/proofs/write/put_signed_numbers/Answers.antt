@@ -1,14 +1,13 @@
 -- `transcript::write::put_signed_numbers`: the numbers that are left, written at their place, give the whole.
 use mathlib.Core.Path.{◌≡◌}
-use Prim.Native.Nat.{◌+◌, ◌-◌, ◌≤◌}
+use Prim.Native.Nat.{◌+◌, ◌-◌}
 use native.Mathlib.Omega.{arith}
 use borrow.Author.Rules.{rules}
 use lib.IntN.{pos}
-use lib.ListN.{get_or, take, drop}
+use lib.ListN.{get_or}
 use mir.Syntax.{w32}
 use mir.Val.{to_z, of_z}
-use Rattle.record.specs.Write.{signed_numbers}
-use Rattle.transcript.proofs.Writing.{Still, still-all, still-none, number_fits, number_more, no-numbers}
+use Rattle.transcript.proofs.Writing.{still-all, still-none, number_fits, number_more, no-numbers}
 use Rattle.transcript.proofs.write.put_signed_numbers.Goals as goal
 
 pub loop-i-init : goal.loop-i-init

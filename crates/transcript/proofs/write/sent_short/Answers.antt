@@ -1,5 +1,4 @@
 -- `transcript::write::sent_short`: its test is that of `sent_short`.
-use borrow.Author.Rules.{rules}
 use borrow.Author.Tests.{lt-ltb, le-ltb}
 use Rattle.ints.specs.Z.{when◌then◌else◌}
 use Rattle.transcript.specs.InnerSent.{sent_short}
