@@ -145,7 +145,7 @@ class Function:
         hit = self.arm(place, parts)
         if hit:
             return hit
-        if parts[0] == "requires":
+        if parts[0] in ("requires", "pre"):
             names = (self.e["pre"] or {}).get("fields") or []
             return ["requires"] + by_clause(parts[1:], names)
         if parts[0] == "args" and len(parts) > 1:
@@ -162,8 +162,14 @@ class Function:
             sigs = SIGNATURES.get(called, [])
             if tail[0] == "ensures" and sigs:
                 tail = ["ensures"] + by_clause(tail[1:], sigs[0][2])
-            if tail[0] in ("new", "auto") and len(tail) > 1 and tail[1].isdigit() and sigs and int(tail[1]) < len(sigs[0][3]):
-                tail = [tail[0], sigs[0][3][int(tail[1])]] + tail[2:]
+            if tail[0] in ("new", "auto") and len(tail) > 1 and tail[1].isdigit() and sigs:
+                # pairs in one another, and a unit at their end
+                deep = 1
+                while deep < len(tail) and tail[deep] == "1":
+                    deep += 1
+                k = deep - 1
+                if deep < len(tail) and tail[deep] == "0" and k < len(sigs[0][3]):
+                    tail = [tail[0], sigs[0][3][k]] + tail[deep + 1:]
         return f.split(".") + tail
 
     def up(self, place, k):
@@ -226,6 +232,9 @@ def convert_body(fn, lines, var_places, need, warn):
                 out.append(base + "." + ".".join(fn.resolve(place, parts)))
             else:
                 target = fn.places[place][2]
+                # facts of no step of the source: what is cited of them are arguments and what is required
+                if re.fullmatch(r"After-(shared_slice_known|slice_known|struct_known|struct_told)[\w-]*", target):
+                    target = "Start"
                 same = place == var_places.get(base)
                 out.append(base if same else (f"(goal.at.{need} {base}).{target}" if need else base + ".before" * k))
             pos = m.end()

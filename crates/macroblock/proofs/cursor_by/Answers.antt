@@ -1,5 +1,4 @@
 -- `cursor_by` meets its contract: by the answer.
-use borrow.Author.Rules.{rules}
 use Rattle.macroblock.proofs.cursor_by.Goals as goal
 
 pub returns-in-Accepted : goal.returns-in-Accepted

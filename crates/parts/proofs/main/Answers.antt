@@ -1,8 +1,5 @@
 -- `parts::main` is safe, and ends: no count passes the number of records.
-use mathlib.Core.Path.{◌≡◌}
-use Prim.Native.Nat.{◌≤◌, ◌<◌, ◌-◌}
 use native.Mathlib.Omega.{arith}
-use lib.ListN.{length}
 use Rattle.parts.proofs.main.Goals as goal
 
 pub count-total-requires : goal.count-total-requires

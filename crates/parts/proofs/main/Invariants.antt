@@ -1,7 +1,6 @@
 -- `parts::main` is safe, and ends: no count passes the number of records.
 use mathlib.Core.Path.{◌≡◌}
 use Prim.Native.Nat.{◌≤◌, ◌<◌, ◌-◌}
-use native.Mathlib.Omega.{arith}
 use lib.ListN.{length}
 use Rattle.parts.proofs.main.Given as goal
 

@@ -1,7 +1,6 @@
 -- `parts::take_question` is safe: what came fits the buffers.
 use native.Mathlib.Omega.{arith}
 use lib.ListN.{length-take}
-use borrow.Author.Rules.{rules}
 use Rattle.parts.proofs.take_question.Goals as goal
 
 pub slice_bounds-given-end : goal.slice_bounds-given-end

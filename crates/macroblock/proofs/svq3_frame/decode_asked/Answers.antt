@@ -9,7 +9,7 @@ pub decode_coded-requires : goal.decode_coded-requires
 decode_coded-requires c = record { fill_value = c.requires; mode_nonzero = some-mode _ c.if-call-eq0.false }
 
 pub returns-then-call-eq0 : goal.returns-then-call-eq0
-returns-then-call-eq0 c = c.decode-coded.auto.1.1.1.1.1.0
+returns-then-call-eq0 c = c.decode_skip.ensures
 
 pub returns-else-call-eq0 : goal.returns-else-call-eq0
 returns-else-call-eq0 c = c.decode_coded.ensures

@@ -13,7 +13,6 @@ use Rattle.record.specs.declared.Head.{Head}
 use Rattle.state.specs.State.{State}
 use Rattle.macroblock.specs.Entry.{state_of}
 use Rattle.macroblock.proofs.Laws as laws
-use borrow.Author.Rules.{rules}
 use Rattle.macroblock.proofs.svq3_frame.decode_coded.Goals.{In-Read, Start}
 use Rattle.macroblock.proofs.svq3_frame.decode_coded.Goals as goal
 
@@ -29,7 +28,7 @@ within-at s = laws.within (S s) s.args.call s.args.bits.now s.args.place s.args.
 
 -- ---- a record was read
 abbrev at_start : In-Read → Start
-at_start k = k.before.before.before.before.before.before.before.before.before.before.before.before.before.before.before.before.before.before.before.before.before
+at_start k = k.before.before.before.before.before.before.before.before.before.before.before.before.before.before.before.before.before.before
 
 abbrev H : In-Read → Head
 H k = k.in-Read.head
@@ -38,16 +37,16 @@ abbrev Vs : In-Read → List ℤ
 Vs k = k.read_coded.new.vectors
 
 abbrev Ls : In-Read → List ℤ
-Ls k = k.read_coded.new.levels.0
+Ls k = k.read_coded.new.levels
 
 range_at : (k : In-Read) → RecordRange (S (at_start k)).cols (S (at_start k)).rows (record_of (H k) (Vs k) (Ls k))
-range_at k = let s = at_start k in laws.range (S s) s.args.call s.args.bits.now s.args.place s.args.transcript.now s.args.fill s.pre.0 s.pre.1 _ (H k) _ (Vs k) (Ls k) k.read_coded.ensures k.in-Read.is
+range_at k = let s = at_start k in laws.range (S s) s.args.call s.args.bits.now s.args.place s.args.transcript.now s.args.fill s.requires.fill_value s.requires.mode_nonzero _ (H k) _ (Vs k) (Ls k) k.read_coded.ensures k.in-Read.is
 
 head_at : (k : In-Read) → HeadRange (H k)
-head_at k = let s = at_start k in laws.head_in (S s) s.args.call s.args.bits.now s.args.place s.args.transcript.now s.args.fill s.pre.0 s.pre.1 _ (H k) _ (Vs k) (Ls k) k.read_coded.ensures k.in-Read.is
+head_at k = let s = at_start k in laws.head_in (S s) s.args.call s.args.bits.now s.args.place s.args.transcript.now s.args.fill s.requires.fill_value s.requires.mode_nonzero _ (H k) _ (Vs k) (Ls k) k.read_coded.ensures k.in-Read.is
 
 no-skip-at : (k : In-Read) → 0 < (H k).mode
-no-skip-at k = let s = at_start k in laws.no-skip (S s) s.args.call s.args.bits.now s.args.place s.args.transcript.now s.args.fill s.pre.0 s.pre.1 _ (H k) _ (Vs k) (Ls k) k.read_coded.ensures k.in-Read.is
+no-skip-at k = let s = at_start k in laws.no-skip (S s) s.args.call s.args.bits.now s.args.place s.args.transcript.now s.args.fill s.requires.fill_value s.requires.mode_nonzero _ (H k) _ (Vs k) (Ls k) k.read_coded.ensures k.in-Read.is
 
 -- ---- the needs
 pub read_coded-requires : goal.read_coded-requires
@@ -59,21 +58,21 @@ read_coded-requires c =
 pub put_coded-filled-requires : goal.put_coded-filled-requires
 put_coded-filled-requires c =
     let s = at_start (goal.at.put_coded-filled-requires c).In-Read in
-    (head_at (goal.at.put_coded-filled-requires c).In-Read, no-skip-at (goal.at.put_coded-filled-requires c).In-Read, c.read_coded.auto.vectors, c.read_coded.auto.levels.0, omega (arith, laws.room (S s) s.args.call s.args.bits.now s.args.place s.args.transcript.now s.args.fill s.pre.0))
+    (head_at (goal.at.put_coded-filled-requires c).In-Read, no-skip-at (goal.at.put_coded-filled-requires c).In-Read, c.read_coded.auto.vectors, c.read_coded.auto.levels, omega (arith, laws.room (S s) s.args.call s.args.bits.now s.args.place s.args.transcript.now s.args.fill s.requires.fill_value))
 
 pub apply_coded-requires : goal.apply_coded-requires
 apply_coded-requires c =
     let s = at_start (goal.at.apply_coded-requires c).In-Read in
     let f = facts_at s in
-    record { cols_bound = (f.in-grid.most-cols, f.in-grid.most-rows, range_at (goal.at.apply_coded-requires c).In-Read, no-skip-at (goal.at.apply_coded-requires c).In-Read, c.read_coded.auto.vectors, c.read_coded.auto.levels.0); all_sized = f.sized }
+    record { cols_bound = (f.in-grid.most-cols, f.in-grid.most-rows, range_at (goal.at.apply_coded-requires c).In-Read, no-skip-at (goal.at.apply_coded-requires c).In-Read, c.read_coded.auto.vectors, c.read_coded.auto.levels); all_sized = f.sized }
 
 pub returns-in-Read : goal.returns-in-Read
 returns-in-Read c =
     let s = at_start (goal.at.returns-in-Read c).In-Read in
     let w = c.put_coded-filled in
     let a = c.apply_coded in
-    laws.accepted (S s) s.args.call s.args.bits.now s.args.place s.args.transcript.now s.args.fill s.pre.0 s.pre.1 _ (H (goal.at.returns-in-Read c).In-Read) _ (Vs (goal.at.returns-in-Read c).In-Read) (Ls (goal.at.returns-in-Read c).In-Read) c.read_coded.ensures c.in-Read.is
-    w.result a.new.y a.new.cb.0 a.new.cb.1.0 a.new.cb.1.1.0 a.new.cb.1.1.1.0 w.new.out
+    laws.accepted (S s) s.args.call s.args.bits.now s.args.place s.args.transcript.now s.args.fill s.requires.fill_value s.requires.mode_nonzero _ (H (goal.at.returns-in-Read c).In-Read) _ (Vs (goal.at.returns-in-Read c).In-Read) (Ls (goal.at.returns-in-Read c).In-Read) c.read_coded.ensures c.in-Read.is
+    w.result a.new.y a.new.cb a.new.cr a.new.mv a.new.marks w.new.out
     w.ensures a.ensures.y_after a.ensures.cb_after a.ensures.cr_after a.ensures.mv_after a.ensures.marks_after
 
 pub returns-in-Refused : goal.returns-in-Refused
@@ -90,10 +89,10 @@ pub slice_bounds-put_coded-end : goal.slice_bounds-put_coded-end
 slice_bounds-put_coded-end c = sym c.read_coded.auto.vectors
 
 pub slice_bounds-put_coded-end-in-Read : goal.slice_bounds-put_coded-end-in-Read
-slice_bounds-put_coded-end-in-Read c = sym c.read_coded.auto.vectors
+slice_bounds-put_coded-end-in-Read c = sym c.read_coded.auto.levels
 
 pub slice_bounds-apply_coded-end : goal.slice_bounds-apply_coded-end
 slice_bounds-apply_coded-end c = sym c.read_coded.auto.vectors
 
 pub slice_bounds-apply_coded-end-in-Read : goal.slice_bounds-apply_coded-end-in-Read
-slice_bounds-apply_coded-end-in-Read c = sym c.read_coded.auto.levels.0
+slice_bounds-apply_coded-end-in-Read c = sym c.read_coded.auto.levels

@@ -4,7 +4,6 @@ use Rattle.picture.specs.InnerPicture.{Within}
 use Rattle.state.specs.State.{State}
 use Rattle.macroblock.specs.Entry.{state_of}
 use Rattle.macroblock.proofs.Laws as laws
-use borrow.Author.Rules.{rules}
 use Rattle.macroblock.proofs.svq3_frame.decode_skip.Goals.{Start}
 use Rattle.macroblock.proofs.svq3_frame.decode_skip.Goals as goal
 
@@ -21,7 +20,7 @@ pub put_skip-filled-requires : goal.put_skip-filled-requires
 put_skip-filled-requires c = let g = within-at (goal.at.put_skip-filled-requires c).Start in (omega (arith, g.across, g.wide), omega (arith, g.down, g.high), omega (arith, laws.room (S (goal.at.put_skip-filled-requires c).Start) c.args.call c.args.bits.now c.args.place c.args.transcript.now c.args.fill c.requires.fill_value))
 
 pub apply_skip-requires : goal.apply_skip-requires
-apply_skip-requires c = let f = facts_at (goal.at.apply_skip-requires c).After-slice_known-1 in record { within = within-at (goal.at.apply_skip-requires c).After-slice_known-1; all_sized = f.sized }
+apply_skip-requires c = let f = facts_at (goal.at.apply_skip-requires c).Start in record { within = within-at (goal.at.apply_skip-requires c).Start; all_sized = f.sized }
 
 pub returns : goal.returns
-returns c = let a = c.apply_skip in let w = c.put_skip-filled in laws.skipped (S (goal.at.returns c).After-slice_known-1) c.args.call c.args.bits.now c.args.place c.args.transcript.now c.args.fill c.requires.fill_value c.requires.mode_value w.result a.new.y a.new.cb.0 a.new.cb.1.0 a.new.cb.1.1.0 a.new.cb.1.1.1.0 w.new.out w.ensures a.ensures.y_after a.ensures.cb_after a.ensures.cr_after a.ensures.mv_after a.ensures.marks_after
+returns c = let a = c.apply_skip in let w = c.put_skip-filled in laws.skipped (S (goal.at.returns c).Start) c.args.call c.args.bits.now c.args.place c.args.transcript.now c.args.fill c.requires.fill_value c.requires.mode_value w.result a.new.y a.new.cb a.new.cr a.new.mv a.new.marks w.new.out w.ensures a.ensures.y_after a.ensures.cb_after a.ensures.cr_after a.ensures.mv_after a.ensures.marks_after

@@ -1,8 +1,7 @@
 -- `parts::added::take_levels` is safe.
-use mathlib.Core.Path.{◌≡◌, refl}
+use mathlib.Core.Path.{◌≡◌}
 use Prim.Native.Nat.{◌≤◌, ◌-◌}
-use native.Mathlib.Omega.{arith}
-use lib.ListN.{length, length-set}
+use lib.ListN.{length}
 use Rattle.parts.proofs.added.take_levels.Given as goal
 
 abbrev pub invariant-loop-i : goal.invariant-loop-i

@@ -1,5 +1,4 @@
 -- `parts::answers::all_values` is safe, and ends.
-use Prim.Native.Nat.{◌≤◌, ◌-◌}
 use native.Mathlib.Omega.{arith}
 use Rattle.parts.proofs.answers.all_values.Goals as goal
 

@@ -1,6 +1,5 @@
 -- `parts::answers::all_values` is safe, and ends.
 use Prim.Native.Nat.{◌≤◌, ◌-◌}
-use native.Mathlib.Omega.{arith}
 use Rattle.parts.proofs.answers.all_values.Given as goal
 
 abbrev pub invariant-loop-i : goal.invariant-loop-i

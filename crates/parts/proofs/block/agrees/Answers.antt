@@ -1,7 +1,6 @@
 -- `parts::block::agrees` is safe: a block of at most 256 samples, and a plane that came whole.
 use native.Mathlib.Omega.{arith}
 use lib.ListN.{length-take}
-use borrow.Author.Rules.{rules}
 use Rattle.parts.proofs.block.agrees.Goals as goal
 
 pub slice_bounds-same_block-end : goal.slice_bounds-same_block-end

@@ -1,10 +1,7 @@
 -- `parts::reading::partitions_agree` is safe, and ends: a mode has at most sixteen partitions.
 use mathlib.Core.Path.{◌≡◌}
 use Prim.Native.Nat.{◌≤◌, ◌-◌}
-use native.Mathlib.Omega.{arith}
-use lib.Dec.{lit<}
 use Rattle.vectors.specs.Modes.{num_motion_vectors}
-use Rattle.vectors.proofs.Partitions.{num-most}
 use Rattle.parts.proofs.reading.partitions_agree.Given as goal
 
 abbrev pub invariant-loop-i : goal.invariant-loop-i
