@@ -1,3 +1,4 @@
+#![tactic(auto)]
 // The replay of a transcript.
 pub mod redo;
 pub mod replay;

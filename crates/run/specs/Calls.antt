@@ -5,8 +5,6 @@ use Rattle.refusal.specs.Got.{Got, and_then, map_got}
 use Rattle.number.specs.Number.{read_number}
 use Rattle.refusal.specs.Until.{until_end}
 use Rattle.state.specs.declared.Call.{Call}
-use Rattle.run.specs.declared.calls.CallAnswer.TheVariants as one
-use Rattle.run.specs.declared.calls.CallsAnswer.TheVariants as all
 
 -- the call at the head of s: its column, row and mode may have any value
 unfoldable pub call_in : List ℕ → Got Call

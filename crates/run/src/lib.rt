@@ -1,3 +1,4 @@
+#![tactic(auto)]
 // A list of calls, and a run of it. What a run says of itself is `Report`, its definition specs/Run.antt.
 pub mod calls;
 pub mod run;

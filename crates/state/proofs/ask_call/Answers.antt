@@ -3,14 +3,6 @@ use mathlib.Core.Path.{sym, ◌∙◌}
 use Rattle.state.proofs.Laws.{call-is}
 use Rattle.state.proofs.ask_call.Goals as goal
 
--- gone: enum-told
--- enum_told : tie.Need-enum-told
--- enum_told c = search rules
-
--- gone: enum-known-why
--- enum-known-why : tie.Need-enum-known-why
--- enum-known-why c = search rules
-
 -- src/lib.rt:151:1
 pub returns-in-Yes : goal.returns-in-Yes
 returns-in-Yes c = let a = c.args in c.ask_rest.ensures ∙ sym (call-is a.grid.cols a.grid.rows a.l a.call a.quantiser a.size a.place a.free _ (sym c.in-Yes.is ∙ c.ask_start.ensures))

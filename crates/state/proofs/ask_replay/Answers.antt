@@ -5,14 +5,6 @@ use Rattle.state.specs.Questions.{ask_quantiser}
 use Rattle.state.proofs.Laws.{replay-is}
 use Rattle.state.proofs.ask_replay.Goals as goal
 
--- gone: enum-told
--- enum_told : tie.Need-enum-told
--- enum_told c = search rules
-
--- gone: enum-known-why
--- enum-known-why : tie.Need-enum-known-why
--- enum-known-why c = search rules
-
 -- src/lib.rt:96:1
 pub returns-then-quantiser-le31 : goal.returns-then-quantiser-le31
 unfolding ask_quantiser

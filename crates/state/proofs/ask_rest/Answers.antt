@@ -6,14 +6,6 @@ use Rattle.state.specs.Questions.{ask_rest, ask_quantiser}
 use Rattle.state.proofs.Laws.{rest-is}
 use Rattle.state.proofs.ask_rest.Goals as goal
 
--- gone: enum-told
--- enum_told : tie.Need-enum-told
--- enum_told c = search rules
-
--- gone: enum-known-why
--- enum-known-why : tie.Need-enum-known-why
--- enum-known-why c = search rules
-
 -- src/lib.rt:138:25
 pub returns-then-free-ge2089 : goal.returns-then-free-ge2089
 returns-then-free-ge2089 c =

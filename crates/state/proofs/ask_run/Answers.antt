@@ -3,14 +3,6 @@ use mathlib.Core.Path.{sym, ◌∙◌}
 use Rattle.state.proofs.Laws.{run_is}
 use Rattle.state.proofs.ask_run.Goals as goal
 
--- gone: enum-told
--- enum_told : tie.Need-enum-told
--- enum_told c = search rules
-
--- gone: enum-known-why
--- enum-known-why : tie.Need-enum-known-why
--- enum-known-why c = search rules
-
 -- src/lib.rt:112:1
 pub returns-in-Yes : goal.returns-in-Yes
 returns-in-Yes c = let a = c.args in c.ask_place.ensures ∙ sym (run_is a.grid.cols a.grid.rows a.l a.quantiser a.size a.place _ (sym c.in-Yes.is ∙ c.ask_replay.ensures))

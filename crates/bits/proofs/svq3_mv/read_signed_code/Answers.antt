@@ -7,14 +7,6 @@ use Rattle.bits.specs.declared.svq3_mv.SignedAnswer.TheVariants.{Value}
 use Rattle.bits.proofs.Answers.{code-range, signed-value, signed-refusal}
 use Rattle.bits.proofs.svq3_mv.read_signed_code.Goals as goal
 
--- gone: enum-known-k
--- enum-known-k : tie.Need-enum-known-k
--- enum-known-k c = search rules
-
--- gone: enum-known-r
--- enum-known-r : tie.Need-enum-known-r
--- enum-known-r c = search rules
-
 -- src/svq3_mv.rt:31:58
 pub signed_of-requires : goal.signed_of-requires
 signed_of-requires c =

@@ -13,10 +13,6 @@ use Rattle.picture.proofs.rows.copy_block.Goals as goal
 lies : (c : In-loop-r) → let a = c.args in Row a.b.stride a.b.x a.b.y a.b.w c.loop-r.r (length a.plane.now) × Row a.b.stride a.b.x a.b.y a.b.w c.loop-r.r (length a.other.now)
 lies c = let p = c.requires in (inside-row p.1 c.loop-r-test.true, inside-row p.2 c.loop-r-test.true)
 
--- gone: same-length
--- same_length : tie.Need-same-length invariant-loop decreases-loop
--- same_length c = omega arith
-
 pub loop-r-init : goal.loop-r-init
 unfolding rows
 loop-r-init c = (omega arith, refl, refl)

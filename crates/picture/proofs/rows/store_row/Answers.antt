@@ -8,10 +8,6 @@ use Rattle.picture.specs.InnerRows.{row, run}
 use Rattle.picture.proofs.Laws.{row-values, row_same}
 use Rattle.picture.proofs.rows.store_row.Goals as goal
 
--- gone: same-length
--- same_length : tie.Need-same-length invariant-loop decreases-loop
--- same_length c = omega arith
-
 -- src/rows.rt:29:13
 pub take_row-t-requires : goal.take_row-t-requires
 take_row-t-requires c = omega arith
