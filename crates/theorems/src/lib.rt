@@ -1,1 +1,2 @@
+#![tactic(auto)]
 // Theorems about runs, transcripts and replay: no code.
