@@ -1,3 +1,4 @@
+#![tactic(auto)]
 // One macroblock, and a run, from the caller's own record of place and quantiser, which moves on.
 pub mod moved;
 pub mod svq3_frame;
