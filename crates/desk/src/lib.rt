@@ -1,3 +1,4 @@
+#![tactic(auto)]
 // What a C host calls: numbers and slices in, one number out, and counts. include/svq3_desk.h declares it for C.
 ghost use Rattle.std.specs.Prelude.{◌≡◌, length};
 ghost use Rattle.compensation.specs.Block.{block_answer, block_out};

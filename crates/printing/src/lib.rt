@@ -1,3 +1,4 @@
+#![tactic(auto)]
 // The printer: its input, its lines, what it prints.
 pub mod header;
 pub mod print;

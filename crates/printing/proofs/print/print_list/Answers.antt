@@ -1,0 +1,28 @@
+-- `printing::print::print_list`: the run's report and the part of its transcript that it filled.
+use native.Mathlib.Omega.{arith}
+use Rattle.printing.specs.Print.{room}
+use Rattle.printing.proofs.Texts.{written_as}
+use Rattle.printing.proofs.Runs.{fill-there, part_count, part-most, part-recorded, lines_are}
+use borrow.Author.Rules.{rules}
+use Rattle.printing.proofs.print.print_list.Goals as goal
+
+pub slice_bounds-transcript-end : goal.slice_bounds-transcript-end
+unfolding room
+slice_bounds-transcript-end c = let a = c.args in fill-there a.h a.list.now a.bits.now c.run_start-report.ensures
+
+pub slice_bounds-put_run-end : goal.slice_bounds-put_run-end
+unfolding room
+slice_bounds-put_run-end c = let a = c.args in part_count a.h a.list.now a.bits.now c.run_start-report.ensures
+
+pub put_run-requires : goal.put_run-requires
+unfolding room
+put_run-requires c =
+    let a = c.args in
+    let e = c.run_start-report.ensures in
+    record { cols_bound = (omega (arith, c.requires.0.cols), omega (arith, c.requires.0.rows), part-recorded a.h a.list.now a.bits.now e); transcript_len_bound = (part-most a.h a.list.now a.bits.now e, c.requires.1) }
+
+pub returns : goal.returns
+unfolding room
+returns c =
+    let a = c.args in
+    (c.put_run.ensures.0, written_as (lines_are a.h a.list.now a.bits.now c.run_start-report.ensures) c.put_run.ensures.1)

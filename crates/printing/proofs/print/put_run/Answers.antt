@@ -1,0 +1,51 @@
+-- `printing::print::put_run`: the records, the bits, the refusal.
+use mathlib.Core.List.{List, [], ◌∷◌, ◌++◌}
+use Prim.Native.Nat.{ℕ, ◌+◌, ◌≤◌}
+use native.Mathlib.Omega.{arith}
+use lib.ListN.{length}
+use Rattle.transcript.specs.Records.{records}
+use Rattle.transcript.proofs.Writing.{Due, due_all, due-fits, due-next, due-none}
+use Rattle.printing.specs.Text.{bits_line}
+use Rattle.printing.specs.Print.{lines_of, stop_lines}
+use Rattle.printing.proofs.Texts.{three-parts}
+use Rattle.printing.proofs.Lines.{run_length}
+use borrow.Author.Rules.{rules}
+use Rattle.printing.proofs.print.put_run.Goals.{After-slice_known-2-1, After-slice_known-3-1, Start}
+use Rattle.printing.proofs.print.put_run.Goals as goal
+
+abbrev records-of : Start → List ℕ
+records-of s = lines_of (records s.args.grid.cols s.args.grid.rows s.args.transcript.now)
+
+abbrev all_of : Start → List ℕ
+all_of s = records-of s ++ bits_line s.args.consumed ++ stop_lines s.args.stop
+
+-- what is left to write after each part
+abbrev ToWrite : Start → List ℕ → ℕ → List (List ℕ) → Type 0
+ToWrite s = Due s.args.out.now 0 (all_of s)
+
+most : (s : Start) → 0 + length (all_of s) ≤ 100352
+most s = omega (arith, run_length s.args.grid.cols s.args.grid.rows s.requires.cols_bound.0 s.requires.cols_bound.1 s.requires.cols_bound.2 s.requires.transcript_len_bound.0 s.args.consumed s.ranges.consumed.fits s.args.stop)
+
+room : (s : Start) → 0 + length (all_of s) ≤ length s.args.out.now
+room s = omega (arith, most s, s.requires.transcript_len_bound.1)
+
+d1 : (s : Start) → ToWrite s s.args.out.now 0 (records-of s ∷ bits_line s.args.consumed ∷ stop_lines s.args.stop ∷ [])
+d1 s = due_all s.args.out.now 0 _ _ (three-parts (records-of s) (bits_line s.args.consumed) (stop_lines s.args.stop))
+
+d2 : (c : After-slice_known-2-1) → ToWrite c.before.before.before.before.before.before c.put_records-p.new.out c.put_records-p.result (bits_line c.args.consumed ∷ stop_lines c.args.stop ∷ [])
+d2 c = due-next (d1 c.before.before.before.before.before.before) c.put_records-p.ensures
+
+d3 : (c : After-slice_known-3-1) → ToWrite c.before.before.before.before.before.before.before.before.before.before c.put_bits-p.new.out c.put_bits-p.result (stop_lines c.args.stop ∷ [])
+d3 c = due-next (d2 c.before.before.before.before) c.put_bits-p.ensures
+
+pub put_records-p-requires : goal.put_records-p-requires
+put_records-p-requires c = (c.requires.cols_bound, due-fits (d1 (goal.at.put_records-p-requires c).Start) (room (goal.at.put_records-p-requires c).Start))
+
+pub put_bits-p-requires : goal.put_bits-p-requires
+put_bits-p-requires c = due-fits (d2 (goal.at.put_bits-p-requires c).Start) (room (goal.at.put_bits-p-requires c).Start)
+
+pub put_stop-requires : goal.put_stop-requires
+put_stop-requires c = due-fits (d3 (goal.at.put_stop-requires c).Start) (room (goal.at.put_stop-requires c).Start)
+
+pub returns : goal.returns
+returns c = let w = due-none (due-next (d3 (goal.at.returns c).Start) c.put_stop.ensures) in (omega (arith, w.moved, most (goal.at.returns c).Start), w)
