@@ -6,7 +6,7 @@ use Rattle.ints.specs.Z.{when◌then◌else◌}
 use Rattle.state.specs.declared.Call.{Call}
 use Rattle.state.specs.State.{State}
 use Rattle.macroblock.specs.Decode.{Outcome, decoded}
-use Rattle.macroblock.specs.Entry.{Lent}
+use Rattle.macroblock.specs.Entry.{LentMut}
 use Rattle.run.specs.Left.{Left, list_left}
 use Rattle.replay.specs.Replay.{Replay, replayed}
 use Rattle.desk.specs.Answer.{output_room, mb_code, stop_code, replay_code}
@@ -30,10 +30,10 @@ abbrev pub slices_of : List ℕ → List ℕ → List ℕ → List ℤ → List 
 slices_of y cb cr mv marks transcript counts = record { y = y; cb = cb; cr = cr; mv = mv; marks = marks; transcript = transcript; counts = counts }
 
 -- at entry and at exit, in an `ensures`
-abbrev pub slices_before : Lent (List ℕ) → Lent (List ℕ) → Lent (List ℕ) → Lent (List ℤ) → Lent (List ℕ) → Lent (List ℕ) → Lent (List ℕ) → Slices
+abbrev pub slices_before : LentMut (List ℕ) → LentMut (List ℕ) → LentMut (List ℕ) → LentMut (List ℤ) → LentMut (List ℕ) → LentMut (List ℕ) → LentMut (List ℕ) → Slices
 slices_before y cb cr mv marks transcript counts = slices_of y.entry.now cb.entry.now cr.entry.now mv.entry.now marks.entry.now transcript.entry.now counts.entry.now
 
-abbrev pub slices_after : Lent (List ℕ) → Lent (List ℕ) → Lent (List ℕ) → Lent (List ℤ) → Lent (List ℕ) → Lent (List ℕ) → Lent (List ℕ) → Slices
+abbrev pub slices_after : LentMut (List ℕ) → LentMut (List ℕ) → LentMut (List ℕ) → LentMut (List ℤ) → LentMut (List ℕ) → LentMut (List ℕ) → LentMut (List ℕ) → Slices
 slices_after y cb cr mv marks transcript counts = slices_of y.exit.now cb.exit.now cr.exit.now mv.exit.now marks.exit.now transcript.exit.now counts.exit.now
 
 -- as the code has it

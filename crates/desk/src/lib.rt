@@ -6,7 +6,7 @@ ghost use Rattle.transcript.specs.Check.{checked};
 ghost use Rattle.macroblock.specs.Entry.{state_before};
 ghost use Rattle.desk.specs.Given.{frame_of};
 ghost use Rattle.desk.specs.Answer.{block_code, check_code};
-ghost use Rattle.desk.specs.Entries.{slices_before, slices_after, ended, call_of, mb_ended, run_ended, replay_ended};
+ghost use Rattle.desk.specs.Entries.{slices_of, slices_before, slices_after, ended, call_of, mb_ended, run_ended, replay_ended};
 
 use crate::given::frame_of;
 use crate::told::{refused, tell_macroblock, tell_replay, tell_run};
@@ -148,8 +148,8 @@ pub extern "C" fn svq3_replay(
     transcript: &[u8],
     counts: &mut [u64],
 ) -> i64
-    ensures { ended result (slices_after y cb cr mv marks transcript counts)
-        ≡ replay_ended (state_before (frame_of cols rows 0 0) quantiser ry rcb rcr y cb cr mv marks) (slices_before y cb cr mv marks transcript counts) }
+    ensures { ended result (slices_of y.new cb.new cr.new mv.new marks.new transcript.now counts.new)
+        ≡ replay_ended (state_before (frame_of cols rows 0 0) quantiser ry rcb rcr y cb cr mv marks) (slices_of y.old cb.old cr.old mv.old marks.old transcript.now counts.old) }
 {
     if counts.len() < REPLAY_COUNTS {
         return OUTPUT_ROOM;

@@ -9,8 +9,6 @@ use Rattle.state.specs.declared.Call.{Call}
 use Rattle.run.specs.Calls.{call_in}
 use Rattle.state.specs.declared.Frame.{Frame}
 use Rattle.printing.specs.declared.header.Header.{Header}
-use Rattle.printing.specs.declared.header.HeaderAnswer.TheVariants as header
-use Rattle.printing.specs.declared.header.ListEnd.TheVariants as list
 
 -- a number from `least` to `most`
 unfoldable pub ranged : ℕ → ℕ → List ℕ → Got ℕ

@@ -2,7 +2,6 @@
 use mathlib.Core.Path.{sym, ap, ◌∙◌}
 use mir.Syntax.{w64}
 use mir.Facts.{to_z-of_z}
-use borrow.Author.Rules.{rules}
 use Rattle.ints.proofs.Fits.{back}
 use Rattle.compensation.specs.Block.{block_out}
 use Rattle.desk.specs.Answer.{block_code}
@@ -10,8 +9,8 @@ use Rattle.desk.proofs.svq3_compensate_block.Goals as goal
 
 pub returns-in-Done : goal.returns-in-Done
 returns-in-Done c =
-    (ap block_code (sym c.in-Done.is ∙ c.motion_compensate_block-answer.ensures.value), c.motion_compensate_block-answer.ensures.out_after ∙ (λ i. block_out c.args.out.now c.args.plane.now c.args.width c.args.height (to_z-of_z c.ranges.x i) (to_z-of_z c.ranges.y i) c.args.w c.args.h (to_z-of_z c.ranges.vx i) (to_z-of_z c.ranges.vy i)))
+    record { value = ap block_code (sym c.in-Done.is ∙ c.motion_compensate_block-answer.ensures.value); out_after = c.motion_compensate_block-answer.ensures.out_after ∙ (λ i. block_out c.args.out.now c.args.plane.now c.args.width c.args.height (to_z-of_z c.ranges.x i) (to_z-of_z c.ranges.y i) c.args.w c.args.h (to_z-of_z c.ranges.vx i) (to_z-of_z c.ranges.vy i)) }
 
 pub returns-in-Refused : goal.returns-in-Refused
 returns-in-Refused c =
-    (back w64 c.refused.type_inv c.refused.ensures ∙ ap block_code (sym c.in-Refused.is ∙ c.motion_compensate_block-answer.ensures.value), c.motion_compensate_block-answer.ensures.out_after ∙ (λ i. block_out c.args.out.now c.args.plane.now c.args.width c.args.height (to_z-of_z c.ranges.x i) (to_z-of_z c.ranges.y i) c.args.w c.args.h (to_z-of_z c.ranges.vx i) (to_z-of_z c.ranges.vy i)))
+    record { value = back w64 c.refused.type_inv c.refused.ensures ∙ ap block_code (sym c.in-Refused.is ∙ c.motion_compensate_block-answer.ensures.value); out_after = c.motion_compensate_block-answer.ensures.out_after ∙ (λ i. block_out c.args.out.now c.args.plane.now c.args.width c.args.height (to_z-of_z c.ranges.x i) (to_z-of_z c.ranges.y i) c.args.w c.args.h (to_z-of_z c.ranges.vx i) (to_z-of_z c.ranges.vy i)) }

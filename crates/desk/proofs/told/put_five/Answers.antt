@@ -1,12 +1,8 @@
 -- Five stores one after another are `sets`.
 use mathlib.Core.List.{[], ◌∷◌}
 use native.Mathlib.Omega.{arith}
-use borrow.Author.Rules.{rules}
 use Rattle.desk.proofs.Words.{later}
 use Rattle.desk.proofs.told.put_five.Goals as goal
-
-pub bounds-counts-0 : goal.bounds-counts-0
-bounds-counts-0 c = let a = c.args in later a.counts.now (a.a ∷ []) 1 (omega arith) c.requires
 
 pub bounds-counts-1 : goal.bounds-counts-1
 bounds-counts-1 c = let a = c.args in later a.counts.now (a.a ∷ []) 1 (omega arith) c.requires

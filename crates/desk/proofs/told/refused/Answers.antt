@@ -3,7 +3,6 @@ use mathlib.Core.Path.{ap, ◌∙◌}
 use Prim.Native.Nat.{ℕ}
 use lib.IntN.{pos, neg_ℤ}
 use native.Mathlib.Omega.{arith}
-use borrow.Author.Rules.{rules}
 use Rattle.ints.proofs.Fits.{signed}
 use Rattle.desk.proofs.Words.{turned_round}
 use Rattle.desk.proofs.told.refused.Goals as goal

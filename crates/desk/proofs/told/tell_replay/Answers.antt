@@ -1,7 +1,6 @@
 -- `told::tell_replay`: by the answer.
 use mathlib.Core.Path.{refl}
 use mir.Syntax.{w64}
-use borrow.Author.Rules.{rules}
 use Rattle.ints.proofs.Fits.{back}
 use Rattle.desk.proofs.told.tell_replay.Goals as goal
 

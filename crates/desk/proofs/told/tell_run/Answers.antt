@@ -4,7 +4,6 @@ use mathlib.Core.List.{[], ◌∷◌}
 use Prim.Native.Nat.{ℕ}
 use lib.Seq.{sets}
 use mir.Syntax.{w64}
-use borrow.Author.Rules.{rules}
 use Rattle.ints.proofs.Fits.{back}
 use Rattle.desk.specs.Counts.{word_of}
 use Rattle.desk.proofs.told.tell_run.Goals as goal

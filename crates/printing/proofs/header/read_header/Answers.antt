@@ -1,7 +1,6 @@
 -- `printing::header::read_header`: each number in its turn.
 use mathlib.Core.Path.{sym, ◌∙◌}
 use Rattle.printing.proofs.Headers.{no-cols, no_rows, no-flags, no-delta, no-quantiser, no-count, whole}
-use borrow.Author.Rules.{rules}
 use Rattle.printing.proofs.header.read_header.Goals as goal
 
 pub returns-in-Refused : goal.returns-in-Refused

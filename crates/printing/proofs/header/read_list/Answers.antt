@@ -1,12 +1,8 @@
 -- `printing::header::read_list`: where the calls that are left end is where all of them do.
 use mathlib.Core.Path.{◌≡◌, sym, ◌∙◌}
-use Prim.Native.Nat.{◌-◌, ◌≤◌}
+use Prim.Native.Nat.{◌-◌}
 use native.Mathlib.Omega.{arith}
-use lib.ListN.{drop}
-use Rattle.printing.specs.Header.{calls_from}
-use Rattle.printing.specs.InnerHeader.{list_end}
 use Rattle.printing.proofs.Headers.{list-none, list-stop, list_on}
-use borrow.Author.Rules.{rules}
 use Rattle.printing.proofs.header.read_list.Goals as goal
 
 pub loop-i-init : goal.loop-i-init

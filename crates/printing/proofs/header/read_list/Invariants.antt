@@ -1,12 +1,9 @@
 -- `printing::header::read_list`: where the calls that are left end is where all of them do.
-use mathlib.Core.Path.{◌≡◌, sym, ◌∙◌}
+use mathlib.Core.Path.{◌≡◌}
 use Prim.Native.Nat.{◌-◌, ◌≤◌}
-use native.Mathlib.Omega.{arith}
 use lib.ListN.{drop}
 use Rattle.printing.specs.Header.{calls_from}
 use Rattle.printing.specs.InnerHeader.{list_end}
-use Rattle.printing.proofs.Headers.{list-none, list-stop, list_on}
-use borrow.Author.Rules.{rules}
 use Rattle.printing.proofs.header.read_list.Given as goal
 
 abbrev pub invariant-loop-i : goal.invariant-loop-i

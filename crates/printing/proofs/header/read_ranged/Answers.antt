@@ -1,7 +1,6 @@
 -- `printing::header::read_ranged`: what `read_number` answered, where it is in range.
 use mathlib.Core.Path.{sym, ◌∙◌}
 use Rattle.printing.proofs.Headers.{within, beyond, no-form}
-use borrow.Author.Rules.{rules}
 use Rattle.printing.proofs.header.read_ranged.Goals as goal
 
 pub returns-then-least-v : goal.returns-then-least-v

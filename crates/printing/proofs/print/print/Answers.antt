@@ -4,7 +4,6 @@ use native.Mathlib.Omega.{arith}
 use lib.Seq.{take_all, length-take-le}
 use Rattle.printing.specs.Print.{printed}
 use Rattle.printing.proofs.Texts.{written_as}
-use borrow.Author.Rules.{rules}
 use Rattle.printing.proofs.print.print.Goals as goal
 
 pub returns-then-input-le32768 : goal.returns-then-input-le32768
@@ -13,4 +12,4 @@ returns-then-input-le32768 c =
     (e.0, written_as (ap printed (sym (take_all 32768 c.args.input.now c.if-input-le32768.true))) e.1)
 
 pub slice_bounds-print_input-end-3 : goal.slice_bounds-print_input-end-3
-slice_bounds-print_input-end-3 c = sym (length-take-le 32768 c.args.input.now (omega (arith, c.if1.false)))
+slice_bounds-print_input-end-3 c = sym (length-take-le 32768 c.args.input.now (omega (arith, c.if-input-le32768.false)))

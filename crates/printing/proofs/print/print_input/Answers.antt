@@ -5,14 +5,13 @@ use native.Mathlib.Omega.{arith}
 use lib.ListN.{length}
 use Rattle.printing.proofs.Texts.{written_as, refused-length}
 use Rattle.printing.proofs.Inputs.{header_refused, range, list-refused, forward, within, printed-is}
-use borrow.Author.Rules.{rules}
-use Rattle.printing.proofs.print.print_input.Goals.{After-print_list-arg-1}
+use Rattle.printing.proofs.print.print_input.Goals.{In-At}
 use Rattle.printing.proofs.print.print_input.Goals as goal
 
-ends-behind : (c : After-print_list-arg-1) → c.in-Header.at ≤ c.in-At.end
+ends-behind : (c : In-At) → c.in-Header.at ≤ c.in-At.end
 ends-behind c = forward c.args.input.now (sym c.in-Header.is ∙ c.read_header.ensures) (sym c.in-At.is ∙ c.read_list.ensures)
 
-ends-within : (c : After-print_list-arg-1) → c.in-At.end ≤ length c.args.input.now
+ends-within : (c : In-At) → c.in-At.end ≤ length c.args.input.now
 ends-within c = within c.args.input.now (sym c.in-Header.is ∙ c.read_header.ensures) (sym c.in-At.is ∙ c.read_list.ensures)
 
 pub print_list-requires : goal.print_list-requires
@@ -35,23 +34,14 @@ returns-in-Refused c =
 pub read_header-requires : goal.read_header-requires
 read_header-requires c = tt
 
-pub slice_bounds-print_list-count : goal.slice_bounds-print_list-count
-slice_bounds-print_list-count c = ends-behind c
-
-pub slice_bounds-print_list-start : goal.slice_bounds-print_list-start
-slice_bounds-print_list-start c = ends-behind c
-
 pub slice_bounds-print_list-end : goal.slice_bounds-print_list-end
-slice_bounds-print_list-end c = omega (arith, ends-behind c, ends-within c)
+slice_bounds-print_list-end c = ends-within (goal.at.slice_bounds-print_list-end c).In-At
 
 pub slice_bounds-print_list-count-in-At : goal.slice_bounds-print_list-count-in-At
-slice_bounds-print_list-count-in-At c = omega (arith, ends-behind c, ends-within c)
+slice_bounds-print_list-count-in-At c = ends-within (goal.at.slice_bounds-print_list-count-in-At c).In-At
 
 pub slice_bounds-print_list-start-in-At : goal.slice_bounds-print_list-start-in-At
-slice_bounds-print_list-start-in-At c = ends-within (goal.at.slice_bounds-print_list-start-in-At c).After-print_list-arg-1
-
-pub slice_bounds-print_list-end-in-At : goal.slice_bounds-print_list-end-in-At
-slice_bounds-print_list-end-in-At c = ends-within (goal.at.slice_bounds-print_list-end-in-At c).After-print_list-arg-1
+slice_bounds-print_list-start-in-At c = ends-within (goal.at.slice_bounds-print_list-start-in-At c).In-At
 
 pub put_refused-requires : goal.put_refused-requires
 put_refused-requires c = omega (arith, refused-length c.in-Refused-read_list.why, c.requires)

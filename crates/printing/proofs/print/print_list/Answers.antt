@@ -3,7 +3,6 @@ use native.Mathlib.Omega.{arith}
 use Rattle.printing.specs.Print.{room}
 use Rattle.printing.proofs.Texts.{written_as}
 use Rattle.printing.proofs.Runs.{fill-there, part_count, part-most, part-recorded, lines_are}
-use borrow.Author.Rules.{rules}
 use Rattle.printing.proofs.print.print_list.Goals as goal
 
 pub slice_bounds-transcript-end : goal.slice_bounds-transcript-end

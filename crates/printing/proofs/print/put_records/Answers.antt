@@ -1,13 +1,12 @@
 -- `printing::print::put_records`: the lines of the records that are left, written at their place, give the whole.
 use mathlib.Core.Path.{◌≡◌, sym, ◌∙◌}
-use Prim.Native.Nat.{◌-◌, ◌≤◌, ◌<◌}
+use Prim.Native.Nat.{◌≤◌, ◌<◌}
 use native.Mathlib.Omega.{arith}
 use lib.ListN.{length, drop}
 use Rattle.record.specs.Parse.{parse_record}
 use Rattle.transcript.specs.InnerCheck.{record_answer}
 use Rattle.transcript.specs.declared.check.RecordAnswer.TheVariants.{Record}
-use Rattle.printing.proofs.Lines.{Going, begin, end, in-form, further, there, fits, on}
-use borrow.Author.Rules.{rules}
+use Rattle.printing.proofs.Lines.{begin, end, in-form, further, there, fits, on}
 use Rattle.printing.proofs.print.put_records.Goals.{In-Record}
 use Rattle.printing.proofs.print.put_records.Goals as goal
 
@@ -32,9 +31,6 @@ loop-i-preserved c = on c.loop-i.invariant c.requires.cols_bound.0 c.requires.co
 
 pub loop-i-init : goal.loop-i-init
 loop-i-init c = begin c.requires.cols_bound.2 c.args.out.now c.args.at
-
-pub check_record-requires : goal.check_record-requires
-check_record-requires c = c.loop.invariant.still.same
 
 pub slice_bounds-put_hex_line-count : goal.slice_bounds-put_hex_line-count
 slice_bounds-put_hex_line-count c = omega (arith, put-start (goal.at.slice_bounds-put_hex_line-count c).In-Record)

@@ -9,8 +9,7 @@ use Rattle.printing.specs.Text.{bits_line}
 use Rattle.printing.specs.Print.{lines_of, stop_lines}
 use Rattle.printing.proofs.Texts.{three-parts}
 use Rattle.printing.proofs.Lines.{run_length}
-use borrow.Author.Rules.{rules}
-use Rattle.printing.proofs.print.put_run.Goals.{After-slice_known-2-1, After-slice_known-3-1, Start}
+use Rattle.printing.proofs.print.put_run.Goals.{Start}
 use Rattle.printing.proofs.print.put_run.Goals as goal
 
 abbrev records-of : Start → List ℕ
@@ -32,20 +31,23 @@ room s = omega (arith, most s, s.requires.transcript_len_bound.1)
 d1 : (s : Start) → ToWrite s s.args.out.now 0 (records-of s ∷ bits_line s.args.consumed ∷ stop_lines s.args.stop ∷ [])
 d1 s = due_all s.args.out.now 0 _ _ (three-parts (records-of s) (bits_line s.args.consumed) (stop_lines s.args.stop))
 
-d2 : (c : After-slice_known-2-1) → ToWrite c.before.before.before.before.before.before c.put_records-p.new.out c.put_records-p.result (bits_line c.args.consumed ∷ stop_lines c.args.stop ∷ [])
-d2 c = due-next (d1 c.before.before.before.before.before.before) c.put_records-p.ensures
-
-d3 : (c : After-slice_known-3-1) → ToWrite c.before.before.before.before.before.before.before.before.before.before c.put_bits-p.new.out c.put_bits-p.result (stop_lines c.args.stop ∷ [])
-d3 c = due-next (d2 c.before.before.before.before) c.put_bits-p.ensures
-
 pub put_records-p-requires : goal.put_records-p-requires
-put_records-p-requires c = (c.requires.cols_bound, due-fits (d1 (goal.at.put_records-p-requires c).Start) (room (goal.at.put_records-p-requires c).Start))
+put_records-p-requires c =
+    let s = (goal.at.put_records-p-requires c).Start in
+    record { cols_bound = c.requires.cols_bound; transcript_in_bounds = due-fits (d1 s) (room s) }
 
 pub put_bits-p-requires : goal.put_bits-p-requires
-put_bits-p-requires c = due-fits (d2 (goal.at.put_bits-p-requires c).Start) (room (goal.at.put_bits-p-requires c).Start)
+put_bits-p-requires c =
+    let s = (goal.at.put_bits-p-requires c).Start in
+    due-fits (due-next (d1 s) c.put_records-p.ensures) (room s)
 
 pub put_stop-requires : goal.put_stop-requires
-put_stop-requires c = due-fits (d3 (goal.at.put_stop-requires c).Start) (room (goal.at.put_stop-requires c).Start)
+put_stop-requires c =
+    let s = (goal.at.put_stop-requires c).Start in
+    due-fits (due-next (due-next (d1 s) c.put_records-p.ensures) c.put_bits-p.ensures) (room s)
 
 pub returns : goal.returns
-returns c = let w = due-none (due-next (d3 (goal.at.returns c).Start) c.put_stop.ensures) in (omega (arith, w.moved, most (goal.at.returns c).Start), w)
+returns c =
+    let s = (goal.at.returns c).Start in
+    let w = due-none (due-next (due-next (due-next (d1 s) c.put_records-p.ensures) c.put_bits-p.ensures) c.put_stop.ensures) in
+    (omega (arith, w.moved, most s), w)

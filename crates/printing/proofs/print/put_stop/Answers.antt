@@ -1,6 +1,5 @@
 -- `printing::print::put_stop`: nothing, or the refusal's line.
 use Rattle.printing.proofs.Texts.{written_none}
-use borrow.Author.Rules.{rules}
 use Rattle.printing.proofs.print.put_stop.Goals as goal
 
 pub put_refused-requires : goal.put_refused-requires

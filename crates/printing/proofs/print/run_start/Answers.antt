@@ -91,6 +91,3 @@ slice_bounds-run-end-8 c = part_length (64 * macroblocks (goal.at.slice_bounds-r
 
 pub frame_of-requires : goal.frame_of-requires
 frame_of-requires c = tt
-
-pub run-requires : goal.run-requires
-run-requires c = c.run.auto.1.1.1.1.1.0

@@ -2,7 +2,6 @@
 use borrow.Author.Tests.{lt-ltb, le-ltb}
 use Rattle.ints.specs.Z.{when◌then◌else◌}
 use Rattle.printing.specs.Text.{hex_digit}
-use borrow.Author.Rules.{rules}
 use Rattle.printing.proofs.text.hex_digit.Goals as goal
 
 pub returns-then-n-lt10 : goal.returns-then-n-lt10

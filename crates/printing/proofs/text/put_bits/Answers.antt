@@ -1,6 +1,5 @@
 -- `printing::text::put_bits`: the word is `bits`.
 use Rattle.printing.specs.Text.{bits_line}
-use borrow.Author.Rules.{rules}
 use Rattle.printing.proofs.text.put_bits.Goals as goal
 
 pub put_count-requires : goal.put_count-requires

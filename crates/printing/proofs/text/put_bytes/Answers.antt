@@ -1,10 +1,10 @@
 -- `printing::text::put_bytes`: the bytes that are left, written at their place, give the whole.
 use mathlib.Core.Path.{◌≡◌, refl}
-use Prim.Native.Nat.{◌+◌, ◌-◌, ◌≤◌}
+use Prim.Native.Nat.{◌+◌}
 use native.Mathlib.Nat.{add-zero}
 use native.Mathlib.Omega.{arith}
-use lib.ListN.{length, drop, drop_of_length-le}
-use Rattle.transcript.proofs.Writing.{Still, still-all, still-none}
+use lib.ListN.{drop_of_length-le}
+use Rattle.transcript.proofs.Writing.{still-all, still-none}
 use Rattle.printing.proofs.Texts.{byte_fits, byte_more}
 use Rattle.printing.proofs.text.put_bytes.Goals as goal
 

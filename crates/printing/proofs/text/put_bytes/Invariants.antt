@@ -1,11 +1,7 @@
 -- `printing::text::put_bytes`: the bytes that are left, written at their place, give the whole.
-use mathlib.Core.Path.{◌≡◌, refl}
 use Prim.Native.Nat.{◌+◌, ◌-◌, ◌≤◌}
-use native.Mathlib.Nat.{add-zero}
-use native.Mathlib.Omega.{arith}
-use lib.ListN.{length, drop, drop_of_length-le}
-use Rattle.transcript.proofs.Writing.{Still, still-all, still-none}
-use Rattle.printing.proofs.Texts.{byte_fits, byte_more}
+use lib.ListN.{length, drop}
+use Rattle.transcript.proofs.Writing.{Still}
 use Rattle.printing.proofs.text.put_bytes.Given as goal
 
 abbrev pub invariant-loop-i : goal.invariant-loop-i

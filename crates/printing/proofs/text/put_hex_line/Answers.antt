@@ -1,12 +1,11 @@
 -- `printing::text::put_hex_line`: the digits that are left, and the end of the line, written at their place, give the whole.
 use mathlib.Core.Path.{refl}
 use mathlib.Core.List.{[], ◌∷◌}
-use Prim.Native.Nat.{◌-◌, ◌≤◌, ◌<◌}
+use Prim.Native.Nat.{◌<◌}
 use native.Mathlib.Omega.{arith}
 use lib.ListN.{length, length-set}
-use Rattle.transcript.proofs.Writing.{Still, still-all, still-fits, still-more, still-none}
-use Rattle.printing.specs.Text.{hex_line}
-use Rattle.printing.proofs.Texts.{written_one, hex-from, hex-all, hex-none, hex-fits, hex-more}
+use Rattle.transcript.proofs.Writing.{still-all, still-fits, still-more, still-none}
+use Rattle.printing.proofs.Texts.{written_one, hex-all, hex-none, hex-fits, hex-more}
 use Rattle.printing.proofs.text.put_hex_line.Goals.{After-loop-i}
 use Rattle.printing.proofs.text.put_hex_line.Goals as goal
 

@@ -1,6 +1,5 @@
 -- `printing::text::put_refused`: the word is `refused`, and the number is the refusal's.
 use Rattle.printing.specs.Text.{refused_line}
-use borrow.Author.Rules.{rules}
 use Rattle.printing.proofs.text.put_refused.Goals as goal
 
 pub put_count-requires : goal.put_count-requires
