@@ -1,3 +1,4 @@
+#![tactic(auto)]
 // Decodes macroblocks and makes runs and replays as the published Rust did, and prints how many end otherwise.
 // tools/reference/README.md has the list's form: records of a head of 80 bytes, then what it says.
 mod bytes;

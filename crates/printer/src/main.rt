@@ -1,3 +1,4 @@
+#![tactic(auto)]
 // The printer: reads a header, a list of calls and bits from standard input, and prints the run's records, its bits and its refusal.
 use printing::print::print;
 

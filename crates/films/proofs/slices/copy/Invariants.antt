@@ -1,0 +1,12 @@
+-- `films::slices::copy` is safe, and ends.
+use native.Mathlib.Omega.{arith}
+use Prim.Native.Nat.{◌≤◌, ◌-◌}
+use mathlib.Core.Path.{refl, ◌≡◌}
+use lib.ListN.{length-set, length}
+use Rattle.films.proofs.slices.copy.Given as goal
+
+abbrev pub invariant-loop-i : goal.invariant-loop-i
+invariant-loop-i l = (l.i ≤ length l.to) × (length l.to ≡ length l.initial.to)
+
+abbrev pub decreases-loop-i : goal.decreases-loop-i
+decreases-loop-i l = length l.initial.to - l.i
