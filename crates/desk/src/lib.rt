@@ -1,5 +1,5 @@
 #![tactic(auto)]
-// What a C host calls: numbers and slices in, one number out, and counts. include/svq3_desk.h declares it for C.
+// What a host calls: numbers and slices in, one number out, and counts. The crate desk_c exports it for C.
 ghost use Rattle.std.specs.Prelude.{◌≡◌, length};
 ghost use Rattle.compensation.specs.Block.{block_answer, block_out};
 ghost use Rattle.transcript.specs.Check.{checked};
@@ -31,8 +31,7 @@ const REPLAY_COUNTS: usize = 2;
 const OUTPUT_ROOM: i64 = -18;
 
 // One macroblock. The counts: place, quantiser, fill, clipped components, detail.
-#[unsafe(no_mangle)]
-pub extern "C" fn svq3_macroblock(
+pub fn svq3_macroblock(
     cols: u64,
     rows: u64,
     flags: u32,
@@ -84,8 +83,7 @@ pub extern "C" fn svq3_macroblock(
 }
 
 // A run. The counts: accepted calls, consumed bits, fill, quantiser, detail.
-#[unsafe(no_mangle)]
-pub extern "C" fn svq3_run(
+pub fn svq3_run(
     cols: u64,
     rows: u64,
     flags: u32,
@@ -132,8 +130,7 @@ pub extern "C" fn svq3_run(
 }
 
 // The replay of a transcript. The counts: records, quantiser.
-#[unsafe(no_mangle)]
-pub extern "C" fn svq3_replay(
+pub fn svq3_replay(
     cols: u64,
     rows: u64,
     quantiser: u32,
@@ -163,8 +160,7 @@ pub extern "C" fn svq3_replay(
 }
 
 // The compensated block of `plane` at (x, y), w × h samples by rows, into `out`; on refusal `out` keeps its bytes.
-#[unsafe(no_mangle)]
-pub extern "C" fn svq3_compensate_block(
+pub fn svq3_compensate_block(
     plane: &[u8],
     width: u64,
     height: u64,
@@ -198,8 +194,7 @@ pub extern "C" fn svq3_compensate_block(
 }
 
 // The number of records of a transcript for a grid, or minus the refusal's number.
-#[unsafe(no_mangle)]
-pub extern "C" fn svq3_check_transcript(cols: u64, rows: u64, bytes: &[u8]) -> i64
+pub fn svq3_check_transcript(cols: u64, rows: u64, bytes: &[u8]) -> i64
     ensures { result ≡ check_code (checked cols rows bytes.now) }
 {
     match check_transcript(bytes, cols as usize, rows as usize) {

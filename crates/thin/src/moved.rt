@@ -1,4 +1,4 @@
-// The thin entries on a cursor made for the call: a function that the borrow checker covers cannot lend a struct, and calls these.
+// The thin entries on a cursor made for the call: for a caller who has place and quantiser as numbers.
 ghost use Rattle.std.specs.Prelude.{◌≡◌};
 ghost use Rattle.macroblock.specs.Decode.{decoded};
 ghost use Rattle.macroblock.specs.Entry.{state_before, state_after, mb_left, cursor_by};

@@ -1,8 +1,5 @@
 -- `films::main` is safe, and ends: no count passes the number of records.
 use native.Mathlib.Omega.{arith}
-use Prim.Native.Nat.{◌≤◌, ◌<◌, ◌-◌}
-use mathlib.Core.Path.{◌≡◌}
-use lib.ListN.{length}
 use Rattle.films.proofs.main.Goals as goal
 
 pub count-total-requires : goal.count-total-requires

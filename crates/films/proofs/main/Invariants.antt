@@ -1,5 +1,4 @@
 -- `films::main` is safe, and ends: no count passes the number of records.
-use native.Mathlib.Omega.{arith}
 use Prim.Native.Nat.{◌≤◌, ◌<◌, ◌-◌}
 use mathlib.Core.Path.{◌≡◌}
 use lib.ListN.{length}

@@ -5,7 +5,6 @@ use native.Mathlib.Omega.{arith}
 use lib.ListN.{length-replicate}
 use lib.Seq.{length-take-le}
 use Rattle.printing.proofs.Texts.{written-length}
-use borrow.Author.Rules.{rules}
 use Rattle.printer.proofs.main.Goals as goal
 
 pub slice_bounds-out-end : goal.slice_bounds-out-end

@@ -2,7 +2,6 @@
 use mathlib.Core.Bool.{false≢true}
 use native.Mathlib.Omega.{arith}
 use lib.ListN.{length-take}
-use borrow.Author.Rules.{rules}
 use Rattle.films.proofs.bytes.fill.Goals as goal
 
 pub returns-else-n-b : goal.returns-else-n-b

@@ -1,6 +1,5 @@
 -- `films::bytes::signed_at` is safe.
 use Rattle.ints.proofs.Fits.{signed}
-use borrow.Author.Rules.{rules}
 use Rattle.films.proofs.bytes.signed_at.Goals as goal
 
 pub overflow_sub-n : goal.overflow_sub-n

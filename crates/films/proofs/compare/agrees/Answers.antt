@@ -1,7 +1,6 @@
 -- `films::compare::agrees` is safe: what came fits the buffers.
 use native.Mathlib.Omega.{arith}
 use lib.ListN.{length-take}
-use borrow.Author.Rules.{rules}
 use Rattle.films.proofs.compare.agrees.Goals as goal
 
 pub slice_bounds-bits-end : goal.slice_bounds-bits-end

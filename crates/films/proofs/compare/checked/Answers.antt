@@ -1,7 +1,6 @@
 -- `films::compare::checked` is safe.
 use native.Mathlib.Omega.{arith}
 use lib.ListN.{length-take}
-use borrow.Author.Rules.{rules}
 use Rattle.films.proofs.compare.checked.Goals as goal
 
 pub slice_bounds-check_agrees-end : goal.slice_bounds-check_agrees-end

@@ -1,6 +1,5 @@
 -- `films::head::detail` is safe.
 use Rattle.ints.proofs.Fits.{signed}
-use borrow.Author.Rules.{rules}
 use Rattle.films.proofs.head.detail.Goals as goal
 
 pub overflow_sub-result : goal.overflow_sub-result

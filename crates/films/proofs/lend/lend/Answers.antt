@@ -1,8 +1,7 @@
 -- `films::lend::lend` is safe: it lends no more than there is.
 use Prim.Native.Nat.{ℕ, ◌≤◌}
 use native.Mathlib.Omega.{arith}
-use Rattle.films.proofs.Lending.{most, lent, given_back}
-use borrow.Author.Rules.{rules}
+use Rattle.films.proofs.Lending.{most, lent}
 use Rattle.films.proofs.lend.lend.Goals as goal
 
 -- the parts of a reference end within its planes

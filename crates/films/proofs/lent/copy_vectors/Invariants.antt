@@ -1,8 +1,7 @@
 -- `films::lent::copy_vectors` is safe, and ends.
-use native.Mathlib.Omega.{arith}
 use Prim.Native.Nat.{◌≤◌, ◌-◌}
-use mathlib.Core.Path.{refl, ◌≡◌}
-use lib.ListN.{length-set, length}
+use mathlib.Core.Path.{◌≡◌}
+use lib.ListN.{length}
 use Rattle.films.proofs.lent.copy_vectors.Given as goal
 
 abbrev pub invariant-loop-i : goal.invariant-loop-i

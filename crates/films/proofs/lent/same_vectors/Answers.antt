@@ -1,7 +1,5 @@
 -- `films::lent::same_vectors` is safe, and ends.
 use native.Mathlib.Omega.{arith}
-use Prim.Native.Nat.{◌≤◌, ◌-◌}
-use lib.ListN.{length}
 use Rattle.films.proofs.lent.same_vectors.Goals as goal
 
 pub loop-i-init : goal.loop-i-init

@@ -1,5 +1,4 @@
 -- `films::lent::same_vectors` is safe, and ends.
-use native.Mathlib.Omega.{arith}
 use Prim.Native.Nat.{◌≤◌, ◌-◌}
 use lib.ListN.{length}
 use Rattle.films.proofs.lent.same_vectors.Given as goal

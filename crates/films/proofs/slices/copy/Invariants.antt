@@ -1,8 +1,7 @@
 -- `films::slices::copy` is safe, and ends.
-use native.Mathlib.Omega.{arith}
 use Prim.Native.Nat.{◌≤◌, ◌-◌}
-use mathlib.Core.Path.{refl, ◌≡◌}
-use lib.ListN.{length-set, length}
+use mathlib.Core.Path.{◌≡◌}
+use lib.ListN.{length}
 use Rattle.films.proofs.slices.copy.Given as goal
 
 abbrev pub invariant-loop-i : goal.invariant-loop-i

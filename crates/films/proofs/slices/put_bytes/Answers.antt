@@ -1,8 +1,6 @@
 -- `films::slices::put_bytes` is safe, and ends.
 use native.Mathlib.Omega.{arith}
-use Prim.Native.Nat.{◌≤◌, ◌-◌}
-use mathlib.Core.Path.{refl, ◌≡◌}
-use lib.ListN.{length}
+use mathlib.Core.Path.{refl}
 use Rattle.films.proofs.slices.put_bytes.Goals as goal
 
 pub loop-i-init : goal.loop-i-init

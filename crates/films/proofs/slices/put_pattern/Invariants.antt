@@ -1,7 +1,6 @@
 -- `films::slices::put_pattern` is safe, and ends.
-use native.Mathlib.Omega.{arith}
-use lib.ListN.{length-set, length}
-use mathlib.Core.Path.{refl, ◌≡◌}
+use lib.ListN.{length}
+use mathlib.Core.Path.{◌≡◌}
 use Prim.Native.Nat.{◌≤◌, ◌-◌}
 use Rattle.films.proofs.slices.put_pattern.Given as goal
 

@@ -1,7 +1,5 @@
 -- `films::slices::same_at` is safe, and ends.
 use native.Mathlib.Omega.{arith}
-use Prim.Native.Nat.{◌≤◌, ◌-◌}
-use lib.ListN.{length}
 use Rattle.films.proofs.slices.same_at.Goals as goal
 
 pub loop-i-init : goal.loop-i-init

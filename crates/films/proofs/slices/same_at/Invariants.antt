@@ -1,5 +1,4 @@
 -- `films::slices::same_at` is safe, and ends.
-use native.Mathlib.Omega.{arith}
 use Prim.Native.Nat.{◌≤◌, ◌-◌}
 use lib.ListN.{length}
 use Rattle.films.proofs.slices.same_at.Given as goal

@@ -1,8 +1,6 @@
 -- `films::start::put_part` is safe, and ends.
 use native.Mathlib.Omega.{arith}
-use Prim.Native.Nat.{◌+◌, ◌*◌, ◌≤◌, ◌-◌}
-use mathlib.Core.Path.{refl, ◌≡◌}
-use lib.ListN.{length}
+use mathlib.Core.Path.{refl}
 use Rattle.films.proofs.start.put_part.Goals as goal
 
 pub loop-r-init : goal.loop-r-init

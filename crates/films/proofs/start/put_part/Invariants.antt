@@ -1,7 +1,6 @@
 -- `films::start::put_part` is safe, and ends.
-use native.Mathlib.Omega.{arith}
 use Prim.Native.Nat.{◌+◌, ◌*◌, ◌≤◌, ◌-◌}
-use mathlib.Core.Path.{refl, ◌≡◌}
+use mathlib.Core.Path.{◌≡◌}
 use lib.ListN.{length}
 use Rattle.films.proofs.start.put_part.Given as goal
 
