@@ -8,10 +8,6 @@ use Rattle.transcript.proofs.Writing.{still-all, still-none}
 use Rattle.printing.proofs.Texts.{byte_fits, byte_more}
 use Rattle.printing.proofs.text.put_bytes.Goals as goal
 
--- gone: same-length
--- same_length : tie.Need-same-length invariant-loop decreases-loop
--- same_length c = c.before.loop.invariant.0.same
-
 pub loop-i-init : goal.loop-i-init
 loop-i-init c = let a = c.args in (rw (add-zero a.at) (still-all a.out.now a.at a.bytes.now a.bytes.now refl), omega arith)
 

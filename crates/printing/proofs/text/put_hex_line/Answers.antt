@@ -15,10 +15,6 @@ end_fits c =
     let f = still-fits l.invariant.0 (10 ∷ []) [] (hex-none c.args.bytes.now l.i c.loop-i-test.false) c.requires in
     omega arith
 
--- gone: same-length
--- same_length : tie.Need-same-length invariant-loop decreases-loop
--- same_length c = simp length-set c.before.loop.invariant.0.same
-
 pub loop-i-init : goal.loop-i-init
 loop-i-init c = let a = c.args in (still-all a.out.now a.at _ _ (hex-all a.bytes.now), omega arith)
 
