@@ -1,7 +1,7 @@
 /*
  * SVQ3 for a C or C++ host: functions on numbers and buffers, proved for every input.
  *
- *   rt staticlib desk                        makes target/staticlib/libdesk.a (x86-64 Linux)
+ *   tools/gate/staticlib.sh desk             makes target/staticlib/libdesk.a (x86-64 Linux)
  *   cc host.c target/staticlib/libdesk.a     links it
  *
  * Each function returns 0 or a count when the work is done, and minus the number of the refusal when it is refused: one

@@ -312,6 +312,6 @@ pub ruleset branches = (tt, to_z-of_z, lt-plain, lt-plain-l, lt-plain-r, le-plai
 pub back : (w : Width) {z x : ℤ} → mag z < 2 ^ hbits w → z ≡ x → to_z w (of_z w z) ≡ x
 back w h e = to_z-of_z (record { sfits = h }) ∙ e
 
--- what a callee says of x, said of y: `via sat_z c.sat-i32.ensures (search reads depth 20)`
+-- what a callee says of x, said of y: `via sat_z c.sat_i32.ensures (search reads depth 20)`
 pub via : {A : Type 0} (f : ℤ → A) {r : A} {x y : ℤ} → r ≡ f x → x ≡ y → r ≡ f y
 via f e h = e ∙ ap f h

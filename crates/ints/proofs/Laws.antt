@@ -114,7 +114,7 @@ floor-shift k a z h = floor-unique k (pos k *ℤ a +ℤ z) (a +ℤ floor_z z k) 
 pub add-diff : (a d b : ℤ) → a +ℤ d ≡ b → d ≡ b -ℤ a
 add-diff a d b e = omega (arith, z-rules, e, add-z a d, diff-z b a)
 
--- ---- what a call of `hold`, `sat_add` or `sat_mul` gave, field by field: `value_of _ c.sat-add.ensures`
+-- ---- what a call of `hold`, `sat_add` or `sat_mul` gave, field by field: `value_of _ c.sat_add.ensures`
 value_of : {r : Held} (z : ℤ) → r ≡ held_z z → r.value ≡ sat_z z
 unfolding held_z
 value_of z e = ap (λ h. h.value) e

@@ -1,4 +1,4 @@
--- A record's column, row and mode: contracts of inner functions. `not-read`, `Skip-read` and `coded-read` of proofs/Places.antt tie them to `parse_record`.
+-- A record's column, row and mode: contracts of inner functions. `not-read`, `skip_read` and `coded-read` of proofs/Places.antt tie them to `parse_record`.
 -- Assumes nothing.
 use Rattle.std.specs.Prelude.{◌&&◌, List, ℕ, leb, ltb}
 use Rattle.ints.specs.Z.{when◌then◌else◌}
