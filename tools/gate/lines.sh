@@ -12,7 +12,7 @@ counted() {
     find crates/*/"$1" -name "*.$2" -exec cat {} + 2> /dev/null |
         grep -cvE '^[[:space:]]*($|--|//|use |ghost use |pub mod |mod )' || true
 }
-files=$(find crates -name '*.rt' -o -name '*.antt' | wc -l)
+files=$(find crates -path '*/out' -prune -o \( -name '*.rt' -o -name '*.antt' \) -print | wc -l)
 functions=$(cat crates/*/src/*.rt | grep -cE '^[[:space:]]*(pub )?(extern "C" )?fn ')
 edits=$(find crates -name '*.edit' | wc -l)
 echo "| crates | files | functions | must-fail edits | lines of code | of definitions | of proof |"
