@@ -5,7 +5,7 @@ set -eu
 here=$(cd "$(dirname "$0")" && pwd)
 root=$(cd "$here/../.." && pwd)
 
-echo "Proving the printer and what it stands on: about 6 minutes on two cores, nothing where it was done before."
+echo "Proving the printer and what it stands on: about 7 minutes on four processors, less where it was done before."
 "$root/tools/gate/program.sh" printer
 for input in example film; do
     echo

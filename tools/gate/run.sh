@@ -16,7 +16,7 @@ trap 'rm -rf "$kept"' EXIT
 trap 'exit 1' HUP INT TERM
 
 cd "$root"
-echo "The gate: every crate proved from nothing, every must-fail edit tried, every program run. About half an hour on two cores."
+echo "The gate: every crate proved, every must-fail edit tried, every program run. About 20 minutes on four processors, less where an earlier run has proved the same files."
 # A pipeline's status is that of its end: rt's own goes through a file.
 {
     status=0
