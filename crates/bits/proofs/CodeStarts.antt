@@ -11,9 +11,9 @@ use lib.ListN.{drop}
 use Rattle.refusal.specs.Got.{Got, got, refused, after}
 use Rattle.bits.specs.Bits.{odd, byte_bits}
 use Rattle.bits.specs.Code.{code_from, code, bit_value}
-use Rattle.bits.specs.InnerCode.{code_answer}
+use Rattle.refusal.specs.Answered.{answered}
+use Rattle.std.specs.Prelude.{Ok}
 use Rattle.bits.specs.InnerStarts.{Short, Starts, Begins}
-use Rattle.bits.specs.declared.svq3.CodeAnswer.TheVariants.{Code}
 use Rattle.bits.proofs.Table.{both_left, both_right, every, at}
 use Rattle.bits.proofs.CodeStep.{moved, value-le}
 
@@ -142,11 +142,11 @@ computed f g t w h =
 -- ---- bits that start with these nine
 module _ (bits : List Bool) (p w n m : ℕ) (begins : drop p bits ≡ byte_bits (w / 2) ++ drop (p + 8) bits) (says : Begins w n m) where
   -- a code that was found is the answer
-  pub at_once : drop (p + 8) bits ≡ odd w ∷ drop (p + 9) bits → n < 10 → Code (m - 1) (p + n + 1) ≡ code_answer p (code (drop p bits))
+  pub at_once : drop (p + 8) bits ≡ odd w ∷ drop (p + 9) bits → n < 10 → Ok (m - 1, p + n + 1) ≡ answered p (code (drop p bits))
   at_once ninth h =
       let e = begins ∙ ap (λ (t : List Bool). byte_bits (w / 2) ++ t) ninth in
       let r : p + n + 1 ≡ p + (n + 1) = omega arith in
-      ap (Code (m - 1)) r ∙ sym (ap (code_answer p) (ap code e ∙ says.ends h (drop (p + 9) bits)))
+      ap (λ (q : ℕ). Ok (m - 1, q)) r ∙ sym (ap (answered p) (ap code e ∙ says.ends h (drop (p + 9) bits)))
 
-  pub later : n ≡ 10 → code_answer (p + 8) (code_from 27 (m / 2) (drop (p + 8) bits)) ≡ code_answer p (code (drop p bits))
-  later h = sym (ap (λ s. code_answer p (code s)) begins ∙ ap (code_answer p) (says.goes_on h (drop (p + 8) bits)) ∙ moved p 8 (p + 8) (code_from 27 (m / 2) (drop (p + 8) bits)) refl)
+  pub later : n ≡ 10 → answered (p + 8) (code_from 27 (m / 2) (drop (p + 8) bits)) ≡ answered p (code (drop p bits))
+  later h = sym (ap (λ s. answered p (code s)) begins ∙ ap (answered p) (says.goes_on h (drop (p + 8) bits)) ∙ moved p 8 (p + 8) (code_from 27 (m / 2) (drop (p + 8) bits)) refl)

@@ -12,35 +12,35 @@ use Rattle.refusal.specs.Got.{Got, got, refused, after}
 use Rattle.refusal.specs.declared.Refusal.TheVariants.{Truncated, BadBitWidth}
 use Rattle.bits.specs.Bits.{bit_list}
 use Rattle.bits.specs.Code.{code_from, bit_value}
-use Rattle.bits.specs.InnerCode.{code_answer}
-use Rattle.bits.specs.declared.svq3.CodeAnswer.{CodeAnswer}
-use Rattle.bits.specs.declared.svq3.CodeAnswer.TheVariants.{Code, Refused}
+use Rattle.refusal.specs.Answered.{answered}
+use Rattle.refusal.specs.declared.Refusal.{Refusal}
+use Rattle.std.specs.Prelude.{Result, Ok, Err}
 use Rattle.bits.proofs.BitAt.{past, here}
 
 -- the answer of reading on from a marker at place p
-abbrev pub code_rest : List ℕ → ℕ → ℕ → ℕ → CodeAnswer
-code_rest s p room m = code_answer p (code_from room m (drop p (bit_list s)))
+abbrev pub code_rest : List ℕ → ℕ → ℕ → ℕ → Result (ℕ × ℕ) Refusal
+code_rest s p room m = answered p (code_from room m (drop p (bit_list s)))
 
 -- what was taken before counts for the place
-pub moved : (p n q : ℕ) (g : Got ℕ) → p + n ≡ q → code_answer p (after n g) ≡ code_answer q g
-moved p n q (got k m) e = ap (Code k) (omega arith)
+pub moved : (p n q : ℕ) (g : Got ℕ) → p + n ≡ q → answered p (after n g) ≡ answered q g
+moved p n q (got k m) e = ap (λ (x : ℕ). Ok (k, x)) (omega arith)
 moved p n q (refused r) e = refl
 
 module _ (s : List ℕ) (p room m : ℕ) where
-  pub ends : length s ≤ p / 8 → code_rest s p room m ≡ Refused Truncated
+  pub ends : length s ≤ p / 8 → code_rest s p room m ≡ Err Truncated
   unfolding code_from
   ends h = rw (past s p h)
 
-  pub stops : p / 8 < length s → true ≡ get_or (bit_list s) p false → code_rest s p room m ≡ Code (m - 1) (p + 1)
+  pub stops : p / 8 < length s → true ≡ get_or (bit_list s) p false → code_rest s p room m ≡ Ok (m - 1, p + 1)
   unfolding code_from
   stops h e = rw (here s p h, ← e)
 
-  pub too_long : p / 8 < length s → false ≡ get_or (bit_list s) p false → room ≡ 0 → code_rest s p room m ≡ Refused (BadBitWidth 32)
+  pub too_long : p / 8 < length s → false ≡ get_or (bit_list s) p false → room ≡ 0 → code_rest s p room m ≡ Err (BadBitWidth 32)
   unfolding code_from
   too_long h e z = rw (here s p h, ← e, z)
 
 -- after a marker 0, the slice ends
-pub cut : (s : List ℕ) (p room m : ℕ) → p / 8 < length s → false ≡ get_or (bit_list s) p false → 0 < room → length s ≤ (p + 1) / 8 → code_rest s p room m ≡ Refused Truncated
+pub cut : (s : List ℕ) (p room m : ℕ) → p / 8 < length s → false ≡ get_or (bit_list s) p false → 0 < room → length s ≤ (p + 1) / 8 → code_rest s p room m ≡ Err Truncated
 unfolding code_from
 cut s p zero m h e z k = absurd (omega arith)
 cut s p (suc room) m h e z k = rw (here s p h, past s (p + 1) k, ← e)

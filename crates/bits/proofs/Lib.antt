@@ -5,6 +5,5 @@ pub mod Unique
 pub mod CodeStarts
 pub mod Windows
 pub mod SignedCode
-pub mod Answers
 pub mod Examples
 pub mod Pairs

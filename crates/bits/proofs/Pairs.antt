@@ -11,18 +11,17 @@ use lib.Dec.{eqb}
 use lib.IntN.{ℤ}
 use lib.ListN.{length, get_or, drop}
 use lib.Seq.{drop-drop}
-use Rattle.refusal.specs.Got.{got, map_got}
+use Rattle.refusal.specs.Got.{Got, got, refused, after, map_got}
 use Rattle.refusal.specs.declared.Refusal.{Refusal}
 use Rattle.bits.specs.Bits.{odd, byte_bits, bit_list}
 use Rattle.bits.specs.Code.{code}
 use Rattle.bits.specs.Signed.{signed_of, signed_code}
-use Rattle.bits.specs.InnerSigned.{signed_answer}
 use Rattle.bits.specs.InnerStarts.{Begins}
 use Rattle.bits.specs.InnerWindow.{top_bits, Shows}
-use Rattle.bits.specs.InnerPair.{signed_at, with_second, pair_from}
-use Rattle.bits.specs.declared.svq3_mv.SignedAnswer.{SignedAnswer}
-use Rattle.bits.specs.declared.svq3_mv.SignedAnswer.TheVariants.{Value, Refused}
-use Rattle.bits.specs.declared.pair.PairAnswer.TheVariants as pair
+use Rattle.std.specs.Prelude.{Result, Ok, Err}
+use Rattle.refusal.specs.Answered.{answered}
+use Rattle.refusal.proofs.Answered.{Answered, answered-got, answered-refused}
+use Rattle.bits.specs.InnerPair.{signed_pair}
 use Rattle.bits.proofs.Windows.{top-add, top_byte, passed, shows-none, shows-byte, byte-here}
 
 -- ---- a word of 32 bits, as the upper half of one of 64
@@ -87,52 +86,89 @@ here-shows w p bits shown =
     (subst (Shows (w * 2 ^ (p % 8) % 2 ^ 32 * 2 ^ 32) (32 - p % 8)) (drop-drop (p % 8) (8 * (p / 8)) bits ∙ ap (λ (k : ℕ). drop k bits) e) (passed-half w 32 (p % 8) (drop (8 * (p / 8)) bits) (omega arith) shown))
 
 -- ---- the answer for both, from each
-pub pair_is : (s : List Bool) (at : ℕ) (y x : ℤ) (p next : ℕ) → Value y p ≡ signed_at s at → Value x next ≡ signed_at s p → pair.Pair y x next ≡ pair_from (signed_at s) (signed_at s at)
-pair_is s at y x p next e f = ap (with_second y) f ∙ ap (pair_from (signed_at s)) e
+abbrev pub signed_at : List Bool → ℕ → Result (ℤ × ℕ) Refusal
+signed_at s at = answered at (signed_code (drop at s))
 
-pub pair-first : (s : List Bool) (at : ℕ) (r : Refusal) → Refused r ≡ signed_at s at → pair.Refused r ≡ pair_from (signed_at s) (signed_at s at)
-pair-first s at r e = ap (pair_from (signed_at s)) e
+module _ (s : List Bool) (at : ℕ) where
+  abbrev pub both : Result ((ℤ × ℤ) × ℕ) Refusal
+  both = answered at (signed_pair (drop at s))
 
-pub pair-second : (s : List Bool) (at : ℕ) (y : ℤ) (p : ℕ) (r : Refusal) → Value y p ≡ signed_at s at → Refused r ≡ signed_at s p → pair.Refused r ≡ pair_from (signed_at s) (signed_at s at)
-pair-second s at y p r e f = ap (with_second y) f ∙ ap (pair_from (signed_at s)) e
+  -- the second one, behind a first one of n bits
+  abbrev pub behind : ℤ → ℕ → Got ℤ → Result ((ℤ × ℤ) × ℕ) Refusal
+  behind y n g = answered at (after n (map_got (λ x. (y, x)) g))
 
--- two codes that were found
-pub pair_found : (s : List Bool) (at n m : ℕ) (y x : ℤ) → signed_code (drop at s) ≡ got y n → signed_code (drop n (drop at s)) ≡ got x m → pair.Pair y x (at + (n + m)) ≡ pair_from (signed_at s) (signed_at s at)
-pair_found s at n m y x e f =
-    let k : at + (n + m) ≡ at + n + m = omega arith in
-    ap (pair.Pair y x) k ∙ pair_is s at y x (at + n) (at + n + m) (sym (ap (signed_answer at) e)) (sym (ap (λ (u : List Bool). signed_answer (at + n) (signed_code u)) (sym (drop-drop n at s)) ∙ ap (signed_answer (at + n)) f))
+  first-got : (y : ℤ) (n : ℕ) → signed_code (drop at s) ≡ got y n → both ≡ behind y n (signed_code (drop (at + n) s))
+  unfolding signed_pair
+  first-got y n e = rw e (ap (λ (t : List Bool). behind y n (signed_code t)) (drop-drop n at s))
+
+  -- two codes that were found
+  pub pair_found : (n m : ℕ) (y x : ℤ) → signed_code (drop at s) ≡ got y n → signed_code (drop n (drop at s)) ≡ got x m → Ok ((y, x), at + (n + m)) ≡ both
+  pair_found n m y x e f = sym (first-got y n e ∙ ap (behind y n) (ap signed_code (sym (drop-drop n at s)) ∙ f))
+
+  pub pair_is : (y x : ℤ) (p next : ℕ) → Ok (y, p) ≡ signed_at s at → Ok (x, next) ≡ signed_at s p → Ok ((y, x), next) ≡ both
+  pair_is y x p next e f = go (answered-got at _ y p e) (answered-got p _ x next f)
+    where
+      go : Answered at (signed_code (drop at s)) y p → Answered p (signed_code (drop p s)) x next → Ok ((y, x), next) ≡ both
+      go a b =
+          let h : signed_code (drop (at + a.taken) s) ≡ got x b.taken = ap (λ (q : ℕ). signed_code (drop q s)) (sym a.moved) ∙ b.is in
+          let k : next ≡ at + (a.taken + b.taken) = omega (arith, a.moved, b.moved) in
+          ap (λ (q : ℕ). Ok ((y, x), q)) k ∙ sym (first-got y a.taken a.is ∙ ap (behind y a.taken) h)
+
+  pub pair-first : (r : Refusal) → Err r ≡ signed_at s at → Err r ≡ both
+  unfolding signed_pair
+  pair-first r e = rw (answered-refused at (signed_code (drop at s)) r e)
+
+  pub pair-second : (y : ℤ) (p : ℕ) (r : Refusal) → Ok (y, p) ≡ signed_at s at → Err r ≡ signed_at s p → Err r ≡ both
+  pair-second y p r e f = go (answered-got at _ y p e)
+    where
+      go : Answered at (signed_code (drop at s)) y p → Err r ≡ both
+      go a =
+          let h : signed_code (drop (at + a.taken) s) ≡ refused r = ap (λ (q : ℕ). signed_code (drop q s)) (sym a.moved) ∙ answered-refused p (signed_code (drop p s)) r f in
+          sym (first-got y a.taken a.is ∙ ap (behind y a.taken) h)
 
 -- ---- and each from it
 pub record Both (s : List Bool) (at : ℕ) (y x : ℤ) (next : ℕ) : Type 0 where
   pub between : ℕ
-  pub first : Value y between ≡ signed_at s at
-  pub second : Value x next ≡ signed_at s between
-
-pub pair_read_lem : (s : List Bool) (at : ℕ) (y x : ℤ) (next : ℕ) → pair.Pair y x next ≡ pair_from (signed_at s) (signed_at s at) → Both s at y x next
-pair_read_lem s at y x next e = one (signed_at s at) refl e
-  where
-    two : (v : ℤ) (p : ℕ) → signed_at s at ≡ Value v p → (a : SignedAnswer) → signed_at s p ≡ a → pair.Pair y x next ≡ with_second v a → Both s at y x next
-    two v p f (Value z q) g h = record { between = p; first = ap (λ (z : ℤ). Value z p) (let i : y ≡ v = cc in i) ∙ sym f; second = ap₂ Value (let i : x ≡ z = cc in i) (let j : next ≡ q = cc in j) ∙ sym g }
-    two v p f (Refused r) g h = absurd (let z : ◌≡◌ {A = ℕ} 0 1 = cc in omega arith)
-
-    one : (a : SignedAnswer) → signed_at s at ≡ a → pair.Pair y x next ≡ pair_from (signed_at s) a → Both s at y x next
-    one (Value v p) f h = two v p f (signed_at s p) refl h
-    one (Refused r) f h = absurd (let z : ◌≡◌ {A = ℕ} 0 1 = cc in omega arith)
+  pub first : Ok (y, between) ≡ signed_at s at
+  pub second : Ok (x, next) ≡ signed_at s between
 
 -- a refusal is the first one's or the second one's
 pub record Behind (s : List Bool) (at : ℕ) (r : Refusal) : Type 0 where
   pub value : ℤ
   pub between : ℕ
-  pub first : Value value between ≡ signed_at s at
-  pub second : Refused r ≡ signed_at s between
+  pub first : Ok (value, between) ≡ signed_at s at
+  pub second : Err r ≡ signed_at s between
 
-pub pair-refused : (s : List Bool) (at : ℕ) (r : Refusal) → pair.Refused r ≡ pair_from (signed_at s) (signed_at s at) → (Refused r ≡ signed_at s at) ⊎ Behind s at r
-pair-refused s at r e = one (signed_at s at) refl e
-  where
-    two : (v : ℤ) (p : ℕ) → signed_at s at ≡ Value v p → (a : SignedAnswer) → signed_at s p ≡ a → pair.Refused r ≡ with_second v a → Behind s at r
-    two v p f (Value z q) g h = absurd (let z : ◌≡◌ {A = ℕ} 0 1 = cc in omega arith)
-    two v p f (Refused x) g h = record { value = v; between = p; first = sym f; second = ap Refused (let i : r ≡ x = cc in i) ∙ sym g }
+module _ (s : List Bool) (at : ℕ) where
+  pub pair_read_lem : (y x : ℤ) (next : ℕ) → Ok ((y, x), next) ≡ both s at → Both s at y x next
+  pair_read_lem y x next e = one (signed_code (drop at s)) refl
+    where
+      two : (v : ℤ) (n : ℕ) → signed_code (drop at s) ≡ got v n → (g : Got ℤ) → signed_code (drop (at + n) s) ≡ g → Ok ((y, x), next) ≡ behind s at v n g → Both s at y x next
+      two v n f (got z m) h k =
+          let p : ((y, x), next) ≡ ((v, z), at + (n + m)) = cc in
+          let same : y ≡ v = ap (λ (q : (ℤ × ℤ) × ℕ). q.0.0) p in
+          let other : x ≡ z = ap (λ (q : (ℤ × ℤ) × ℕ). q.0.1) p in
+          let end : next ≡ at + n + m = ap (λ (q : (ℤ × ℤ) × ℕ). q.1) p ∙ omega arith in
+          record {
+            between = at + n;
+            first = ap (λ (t : ℤ). Ok (t, at + n)) same ∙ sym (ap (answered at) f);
+            second = ap₂ (λ (t : ℤ) (q : ℕ). Ok (t, q)) other end ∙ sym (ap (answered (at + n)) h);
+          }
+      two v n f (refused q) h k = absurd (let z : ◌≡◌ {A = ℕ} 0 1 = cc in omega arith)
 
-    one : (a : SignedAnswer) → signed_at s at ≡ a → pair.Refused r ≡ pair_from (signed_at s) a → (Refused r ≡ signed_at s at) ⊎ Behind s at r
-    one (Value v p) f h = inr (two v p f (signed_at s p) refl h)
-    one (Refused x) f h = inl (ap Refused (let i : r ≡ x = cc in i) ∙ sym f)
+      one : (g : Got ℤ) → signed_code (drop at s) ≡ g → Both s at y x next
+      one (got v n) f = two v n f (signed_code (drop (at + n) s)) refl (e ∙ first-got s at v n f)
+      one (refused r) f = absurd (let k : Ok ((y, x), next) ≡ Err r = e ∙ sym (pair-first s at r (sym (ap (answered at) f))) in let z : ◌≡◌ {A = ℕ} 0 1 = cc in omega arith)
+
+  pub pair-refused : (r : Refusal) → Err r ≡ both s at → (Err r ≡ signed_at s at) ⊎ Behind s at r
+  pair-refused r e = one (signed_code (drop at s)) refl
+    where
+      two : (v : ℤ) (n : ℕ) → signed_code (drop at s) ≡ got v n → (g : Got ℤ) → signed_code (drop (at + n) s) ≡ g → Err r ≡ behind s at v n g → Behind s at r
+      two v n f (got z m) h k = absurd (let z : ◌≡◌ {A = ℕ} 0 1 = cc in omega arith)
+      two v n f (refused q) h k = record { value = v; between = at + n; first = sym (ap (answered at) f); second = ap Err (let i : r ≡ q = cc in i) ∙ sym (ap (answered (at + n)) h) }
+
+      one : (g : Got ℤ) → signed_code (drop at s) ≡ g → (Err r ≡ signed_at s at) ⊎ Behind s at r
+      one (got v n) f = inr (two v n f (signed_code (drop (at + n) s)) refl (e ∙ first-got s at v n f))
+      one (refused q) f =
+          let k : Err r ≡ Err q = e ∙ sym (pair-first s at q (sym (ap (answered at) f))) in
+          inl (ap Err (let i : r ≡ q = cc in i) ∙ sym (ap (answered at) f))

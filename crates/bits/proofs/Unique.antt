@@ -13,7 +13,10 @@ use lib.Dec.{lit<, lit≤, leb}
 use lib.Pow.{pow_pos, pow_mono, shr-shr}
 use lib.ListN.{length}
 use Rattle.refusal.specs.Got.{Got, got, refused, after}
+use Rattle.std.specs.Prelude.{Ok}
+use Rattle.refusal.specs.Answered.{answered}
 use Rattle.refusal.specs.Format.{Came, Format}
+use Rattle.refusal.proofs.Answered.{answered-got}
 use Rattle.refusal.proofs.Formats.{got-value, got-count, never}
 use Rattle.bits.specs.Bits.{odd}
 use Rattle.bits.specs.Code.{code_from, code, CodeRange, bit_value, marked, places_in, code_bits}
@@ -147,3 +150,7 @@ code-came s k q e =
 -- UNIQUE READING of a code: the reader answers (k, taken) exactly where the bits taken are those of k
 pub code-format : Format code code_bits CodeRange
 code-format = record { reads = code_reads; came = code-came }
+
+-- a code that was answered has at most 31 data bits
+pub code-range : (at : ℕ) (s : List Bool) (k q : ℕ) → Ok (k, q) ≡ answered at (code s) → CodeRange k
+code-range at s k q e = let a = answered-got at (code s) k q e in (code-format.came s k a.taken a.is).in_range

@@ -12,18 +12,12 @@ pub fn bit_at(bits: &[u8], at: usize) -> bool
     (bits[i] >> shift) % 2 == 1
 }
 
-fn wide(x: u8) -> u32
-    ensures { result ≡ x }
-{
-    x as u32
-}
-
 // The nine bits from a place on, as a number.
 pub fn nine_at(bits: &[u8], at: usize) -> u32
     requires { at / 8 + 1 < length bits.now }
     ensures { (result < 512) × (drop at (bit_list bits.now) ≡ byte_bits (result / 2) ++ drop (at + 8) (bit_list bits.now)) × (drop (at + 8) (bit_list bits.now) ≡ odd result ∷ drop (at + 9) (bit_list bits.now)) }
 {
     let i = at / 8;
-    let two = 256 * wide(bits[i]) + wide(bits[i + 1]);
+    let two = u16::from_be_bytes([bits[i], bits[i + 1]]) as u32;
     ((two << (at % 8)) >> 7) % 512
 }

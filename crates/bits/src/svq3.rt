@@ -2,23 +2,16 @@
 ghost use Rattle.std.specs.Prelude.{◌≡◌, ◌+◌, ◌*◌, ◌≤◌, ◌<◌, ◌^◌, length, drop};
 ghost use Rattle.bits.specs.Bits.{bit_list};
 ghost use Rattle.bits.specs.Code.{code_from, code};
-ghost use Rattle.bits.specs.InnerCode.{code_answer};
+ghost use Rattle.refusal.specs.Answered.{answered};
 
 use crate::bitreader::{bit_at, nine_at};
 use crate::code_starts::code_start;
 use refusal::Refusal;
 
-#[derive(Clone, Copy)]
-pub enum CodeAnswer {
-    // a code, and the place after it
-    Code(u32, usize),
-    Refused(Refusal),
-}
-
 // Bit by bit from a marker on: `head` is a 1 followed by the data bits before it, and `spare` data bits may still come.
-fn read_on(bits: &[u8], at: usize, head: u32, spare: u32) -> CodeAnswer
+fn read_on(bits: &[u8], at: usize, head: u32, spare: u32) -> Result<(u32, usize), Refusal>
     requires { (length bits.now < 2 ^ 61) × ((head + 1) * 2 ^ spare ≤ 2 ^ 32) × (0 < head) }
-    ensures { result ≡ code_answer at (code_from spare head (drop at (bit_list bits.now))) }
+    ensures { result ≡ answered at (code_from spare head (drop at (bit_list bits.now))) }
 {
     let n = bits.len();
     let mut p = at;
@@ -27,19 +20,19 @@ fn read_on(bits: &[u8], at: usize, head: u32, spare: u32) -> CodeAnswer
     let mut room = spare;
     loop {
         if n <= p / 8 {
-            return CodeAnswer::Refused(Refusal::Truncated);
+            return Err(Refusal::Truncated);
         }
         if bit_at(bits, p) {
             let k = m - 1;
             let next = p + 1;
-            return CodeAnswer::Code(k, next);
+            return Ok((k, next));
         }
         if room == 0 {
-            return CodeAnswer::Refused(Refusal::BadBitWidth(32));
+            return Err(Refusal::BadBitWidth(32));
         }
         let d = p + 1;
         if n <= d / 8 {
-            return CodeAnswer::Refused(Refusal::Truncated);
+            return Err(Refusal::Truncated);
         }
         if bit_at(bits, d) {
             m = 2 * m + 1;
@@ -52,9 +45,9 @@ fn read_on(bits: &[u8], at: usize, head: u32, spare: u32) -> CodeAnswer
 }
 
 // A code of at most nine bits is found in the nine bits at its place, a longer one is read from the ninth on.
-pub fn read_universal_code(bits: &[u8], at: usize) -> CodeAnswer
+pub fn read_universal_code(bits: &[u8], at: usize) -> Result<(u32, usize), Refusal>
     requires { length bits.now < 2 ^ 61 }
-    ensures { result ≡ code_answer at (code (drop at (bit_list bits.now))) }
+    ensures { result ≡ answered at (code (drop at (bit_list bits.now))) }
 {
     if bits.len() <= at / 8 + 1 {
         return read_on(bits, at, 1, 31);
@@ -65,5 +58,5 @@ pub fn read_universal_code(bits: &[u8], at: usize) -> CodeAnswer
     if before == 10 {
         return read_on(bits, at + 8, head / 2, 27);
     }
-    CodeAnswer::Code(head - 1, at + before as usize + 1)
+    Ok((head - 1, at + before as usize + 1))
 }

@@ -10,26 +10,21 @@ pub struct Window {
     pub known: u32,
 }
 
-fn wide(x: u8) -> u64
-    ensures { (result ≡ x) × (result < 256) }
-{
-    x as u64
-}
-
 // The 64 bits from byte i on. The compiler makes one load of it.
 fn word_at(bits: &[u8], i: usize) -> u64
     requires { i + 8 ≤ length bits.now }
     ensures { Shows result 64 (drop (8 * i) (bit_list bits.now)) }
 {
-    let high = wide(bits[i]) * 0x100_0000
-        + wide(bits[i + 1]) * 0x1_0000
-        + wide(bits[i + 2]) * 0x100
-        + wide(bits[i + 3]);
-    let low = wide(bits[i + 4]) * 0x100_0000
-        + wide(bits[i + 5]) * 0x1_0000
-        + wide(bits[i + 6]) * 0x100
-        + wide(bits[i + 7]);
-    high * 0x1_0000_0000 + low
+    u64::from_be_bytes([
+        bits[i],
+        bits[i + 1],
+        bits[i + 2],
+        bits[i + 3],
+        bits[i + 4],
+        bits[i + 5],
+        bits[i + 6],
+        bits[i + 7],
+    ])
 }
 
 // The window of the bits at a place, empty where no eight bytes are left.

@@ -1,6 +1,5 @@
 pub mod Numbers
 pub mod SignedNumbers
-pub mod Answers
 pub mod Examples
 pub mod Reading
 pub mod I32

@@ -15,31 +15,31 @@ use lib.Seq.{drop-cons}
 use Rattle.refusal.specs.Got.{Got, got, refused}
 use Rattle.refusal.specs.declared.Refusal.TheVariants.{NumberForm}
 use Rattle.number.specs.Number.{low_then, read_number}
-use Rattle.number.specs.InnerNumber.{number_answer}
-use Rattle.number.specs.declared.NumberAnswer.{NumberAnswer}
-use Rattle.number.specs.declared.NumberAnswer.TheVariants.{Number, Refused}
+use Rattle.refusal.specs.Answered.{answered}
+use Rattle.refusal.specs.declared.Refusal.{Refusal}
+use Rattle.std.specs.Prelude.{Result, Ok, Err}
 use Rattle.number.proofs.Numbers.{number-format, refused-form, lt-or-le, zero-or-more, low-then, low-zero, low-large, low-refused, read-end, read-last, read_more}
 
 -- the answer of a reader that started at `at` and stands at p: the groups between have the value a, and the number behind them counts `unit`
-unfoldable pub joined : ℕ → ℕ → ℕ → ℕ → Got ℕ → NumberAnswer
+unfoldable pub joined : ℕ → ℕ → ℕ → ℕ → Got ℕ → Result (ℕ × ℕ) Refusal
 joined at p a unit (got v n) =
-    cond (ltb (a + v * unit) (2 ^ 32)) (cond (ltb at p && eqb v 0) (Refused NumberForm) (Number (a + v * unit) (p + n))) (Refused NumberForm)
-joined at p a unit (refused r) = Refused NumberForm
+    cond (ltb (a + v * unit) (2 ^ 32)) (cond (ltb at p && eqb v 0) (Err NumberForm) (Ok (a + v * unit, p + n))) (Err NumberForm)
+joined at p a unit (refused r) = Err NumberForm
 
 and-false : (t : Bool) → (t && false) ≡ false
 and-false true = refl
 and-false false = refl
 
 module _ (at p a unit : ℕ) where
-  pub large : (v n : ℕ) → 2 ^ 32 ≤ a + v * unit → joined at p a unit (got v n) ≡ Refused NumberForm
+  pub large : (v n : ℕ) → 2 ^ 32 ≤ a + v * unit → joined at p a unit (got v n) ≡ Err NumberForm
   unfolding joined
   large v n h = rw (le-ltb (a + v * unit) (2 ^ 32) h)
 
-  pub not-shortest : (v n : ℕ) → a + v * unit < 2 ^ 32 → (ltb at p && eqb v 0) ≡ true → joined at p a unit (got v n) ≡ Refused NumberForm
+  pub not-shortest : (v n : ℕ) → a + v * unit < 2 ^ 32 → (ltb at p && eqb v 0) ≡ true → joined at p a unit (got v n) ≡ Err NumberForm
   unfolding joined
   not-shortest v n h e = rw (lt-ltb (a + v * unit) (2 ^ 32) h, e)
 
-  pub fine : (v n : ℕ) → a + v * unit < 2 ^ 32 → (ltb at p && eqb v 0) ≡ false → joined at p a unit (got v n) ≡ Number (a + v * unit) (p + n)
+  pub fine : (v n : ℕ) → a + v * unit < 2 ^ 32 → (ltb at p && eqb v 0) ≡ false → joined at p a unit (got v n) ≡ Ok (a + v * unit, p + n)
   unfolding joined
   fine v n h e = rw (lt-ltb (a + v * unit) (2 ^ 32) h, e)
 
@@ -47,20 +47,20 @@ module _ (at p a unit : ℕ) where
   not-zero v z = rw (ne_eqb v 0 (λ e. omega arith)) (and-false (ltb at p))
 
   -- a top group 0
-  zero-top : (n : ℕ) → at < p → joined at p a unit (got 0 n) ≡ Refused NumberForm
+  zero-top : (n : ℕ) → at < p → joined at p a unit (got 0 n) ≡ Err NumberForm
   unfolding joined
   zero-top n h = ⊎_elim (λ l. not-shortest 0 n l (rw (lt-ltb at p h))) (λ l. large 0 n l) (lt-or-le (a + 0 * unit) (2 ^ 32))
 
-pub start : (at : ℕ) (s : List ℕ) → joined at at 0 1 (read_number s) ≡ number_answer at (read_number s)
+pub start : (at : ℕ) (s : List ℕ) → joined at at 0 1 (read_number s) ≡ answered at (read_number s)
 unfolding joined
 start at s = go (read_number s) refl
   where
-    go : (x : Got ℕ) → read_number s ≡ x → joined at at 0 1 x ≡ number_answer at x
+    go : (x : Got ℕ) → read_number s ≡ x → joined at at 0 1 x ≡ answered at x
     go (got v n) e =
         let h = (number-format.came s v n e).in_range in
         let is : 0 + v * 1 ≡ v = omega arith in
-        fine at at 0 1 v n (omega arith) (rw (le-ltb at at (le_refl at))) ∙ ap (λ (w : ℕ). Number w (at + n)) is
-    go (refused r) e = ap Refused (sym (refused-form s r e))
+        fine at at 0 1 v n (omega arith) (rw (le-ltb at at (le_refl at))) ∙ ap (λ (w : ℕ). Ok (w, at + n)) is
+    go (refused r) e = ap Err (sym (refused-form s r e))
 
 -- one group more
 module _ (at p a unit low : ℕ) (below : at ≤ p) (some : 0 < unit) where
@@ -69,10 +69,10 @@ module _ (at p a unit low : ℕ) (below : at ≤ p) (some : 0 < unit) where
   step (refused r) = rw (low-refused low r)
   step (got v n) = ⊎_elim nothing (λ z. ⊎_elim (within z) (beyond z) (lt-or-le (low + 128 * v) (2 ^ 32))) (zero-or-more v)
     where
-      here : NumberAnswer
+      here : Result (ℕ × ℕ) Refusal
       here = joined at p a unit (low_then low (got v n))
 
-      there : NumberAnswer
+      there : Result (ℕ × ℕ) Refusal
       there = joined at (p + 1) (a + low * unit) (128 * unit) (got v n)
 
       same : a + (low + 128 * v) * unit ≡ a + low * unit + v * (128 * unit)
@@ -90,7 +90,7 @@ module _ (at p a unit low : ℕ) (below : at ≤ p) (some : 0 < unit) where
       in_range : 0 < v → a + (low + 128 * v) * unit < 2 ^ 32 → joined at p a unit (got (low + 128 * v) (suc n)) ≡ there
       in_range z k =
           fine at p a unit (low + 128 * v) (suc n) k (not-zero at p a unit (low + 128 * v) (omega arith))
-          ∙ ap (λ (w : ℕ). Number w (p + suc n)) same ∙ ap (Number (a + low * unit + v * (128 * unit))) next
+          ∙ ap (λ (w : ℕ). Ok (w, p + suc n)) same ∙ ap (λ (w : ℕ). Ok (a + low * unit + v * (128 * unit), w)) next
           ∙ sym (fine at (p + 1) (a + low * unit) (128 * unit) v n (omega arith) (not-zero at (p + 1) a unit v z))
 
       too_large : 2 ^ 32 ≤ a + (low + 128 * v) * unit → joined at p a unit (got (low + 128 * v) (suc n)) ≡ there
@@ -101,7 +101,7 @@ module _ (at p a unit low : ℕ) (below : at ≤ p) (some : 0 < unit) where
 
 -- ---- the answer at the head of the loop, by the byte at p
 module _ (s : List ℕ) (at p a unit : ℕ) where
-  pub ends : length s ≤ p → joined at p a unit (read_number (drop p s)) ≡ Refused NumberForm
+  pub ends : length s ≤ p → joined at p a unit (read_number (drop p s)) ≡ Err NumberForm
   unfolding joined
   ends h = rw (drop_of_length-le s h, read-end)
 
@@ -109,7 +109,7 @@ module _ (s : List ℕ) (at p a unit : ℕ) where
   here h = rw (add-one, drop-cons s p 0 h)
 
   -- alone
-  pub one-group : p < length s → get_or s p 0 < 128 → number_answer p (read_number (drop p s)) ≡ Number (get_or s p 0) (p + 1)
+  pub one-group : p < length s → get_or s p 0 < 128 → answered p (read_number (drop p s)) ≡ Ok (get_or s p 0, p + 1)
   one-group h l = rw (here h, read-last (get_or s p 0) (drop (p + 1) s) l)
 
   pub last-group : p < length s → get_or s p 0 < 128 → joined at p a unit (read_number (drop p s)) ≡ joined at p a unit (got (get_or s p 0) 1)
@@ -120,11 +120,11 @@ module _ (s : List ℕ) (at p a unit : ℕ) where
   goes_on h l k below some = rw (here h, read_more (get_or s p 0) (drop (p + 1) s) l k) (step at p a unit (get_or s p 0 - 128) below some (read_number (drop (p + 1) s)))
 
   -- a sixth group
-  pub sixth : p < length s → 128 ≤ get_or s p 0 → get_or s p 0 < 256 → at ≤ p → 2 ^ 28 ≤ unit → joined at p a unit (read_number (drop p s)) ≡ Refused NumberForm
+  pub sixth : p < length s → 128 ≤ get_or s p 0 → get_or s p 0 < 256 → at ≤ p → 2 ^ 28 ≤ unit → joined at p a unit (read_number (drop p s)) ≡ Err NumberForm
   unfolding joined
   sixth h l k below big = goes_on h l k below (omega arith) ∙ go (read_number (drop (p + 1) s))
     where
-      go : (x : Got ℕ) → joined at (p + 1) (a + (get_or s p 0 - 128) * unit) (128 * unit) x ≡ Refused NumberForm
+      go : (x : Got ℕ) → joined at (p + 1) (a + (get_or s p 0 - 128) * unit) (128 * unit) x ≡ Err NumberForm
       go (refused r) = refl
       go (got v n) = ⊎_elim
           (λ (z : v ≡ 0). rw z (zero-top at (p + 1) (a + (get_or s p 0 - 128) * unit) (128 * unit) n (omega arith)))

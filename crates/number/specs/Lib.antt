@@ -1,4 +1,2 @@
 pub mod Number
 pub mod SignedNumber
-pub mod InnerNumber
-pub mod InnerSignedNumber

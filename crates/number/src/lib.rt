@@ -3,35 +3,14 @@
 ghost use Rattle.std.specs.Prelude.{◌≡◌, ◌+◌, ◌≤◌, length, drop};
 ghost use Rattle.std.proofs.lemmas.List.Edits.{sets};
 ghost use Rattle.number.specs.Number.{number, read_number};
-ghost use Rattle.number.specs.InnerNumber.{number_answer};
+ghost use Rattle.refusal.specs.Answered.{answered};
 ghost use Rattle.number.specs.SignedNumber.{sent, received, signed_number, read_signed};
-ghost use Rattle.number.specs.InnerSignedNumber.{signed_number_answer};
 
 use refusal::Refusal;
 
-#[derive(Clone, Copy)]
-pub enum NumberAnswer {
-    // a number, and the place after it
-    Number(u32, usize),
-    Refused(Refusal),
-}
-
-#[derive(Clone, Copy)]
-pub enum SignedNumberAnswer {
-    // a signed number, and the place after it
-    SignedNumber(i32, usize),
-    Refused(Refusal),
-}
-
-fn wide(x: u8) -> u64
-    ensures { result ≡ x }
-{
-    x as u64
-}
-
 // The number at a place, group by group.
-fn read_groups(s: &[u8], at: usize) -> NumberAnswer
-    ensures { result ≡ number_answer at (read_number (drop at s.now)) }
+fn read_groups(s: &[u8], at: usize) -> Result<(u32, usize), Refusal>
+    ensures { result ≡ answered at (read_number (drop at s.now)) }
 {
     let mut p = at;
     // the groups so far have this value, and the next one counts this unit
@@ -39,22 +18,22 @@ fn read_groups(s: &[u8], at: usize) -> NumberAnswer
     let mut unit: u64 = 1;
     loop {
         if s.len() <= p {
-            return NumberAnswer::Refused(Refusal::NumberForm);
+            return Err(Refusal::NumberForm);
         }
-        let b = wide(s[p]);
+        let b = s[p] as u64;
         if b < 128 {
             let v = a + b * unit;
             if 4294967296 <= v {
-                return NumberAnswer::Refused(Refusal::NumberForm);
+                return Err(Refusal::NumberForm);
             }
             if (at < p) & (b == 0) {
-                return NumberAnswer::Refused(Refusal::NumberForm);
+                return Err(Refusal::NumberForm);
             }
-            return NumberAnswer::Number(v as u32, p + 1);
+            return Ok((v as u32, p + 1));
         }
         // a sixth group would count 2^35
         if 268435456 <= unit {
-            return NumberAnswer::Refused(Refusal::NumberForm);
+            return Err(Refusal::NumberForm);
         }
         a = a + (b - 128) * unit;
         unit = 128 * unit;
@@ -63,13 +42,13 @@ fn read_groups(s: &[u8], at: usize) -> NumberAnswer
 }
 
 // The number at a place, which may lie anywhere, also past the end. Most have one group.
-pub fn read_number(s: &[u8], at: usize) -> NumberAnswer
-    ensures { result ≡ number_answer at (read_number (drop at s.now)) }
+pub fn read_number(s: &[u8], at: usize) -> Result<(u32, usize), Refusal>
+    ensures { result ≡ answered at (read_number (drop at s.now)) }
 {
     if at < s.len() {
         let b = s[at];
         if b < 128 {
-            return NumberAnswer::Number(b as u32, at + 1);
+            return Ok((b as u32, at + 1));
         }
     }
     read_groups(s, at)
@@ -110,13 +89,11 @@ pub fn received_of(n: u32) -> i32
     if n % 2 == 1 { -half - 1 } else { half }
 }
 
-pub fn read_signed_number(s: &[u8], at: usize) -> SignedNumberAnswer
-    ensures { result ≡ signed_number_answer at (read_signed (drop at s.now)) }
+pub fn read_signed_number(s: &[u8], at: usize) -> Result<(i32, usize), Refusal>
+    ensures { result ≡ answered at (read_signed (drop at s.now)) }
 {
-    match read_number(s, at) {
-        NumberAnswer::Number(n, next) => SignedNumberAnswer::SignedNumber(received_of(n), next),
-        NumberAnswer::Refused(r) => SignedNumberAnswer::Refused(r),
-    }
+    let (n, next) = read_number(s, at)?;
+    Ok((received_of(n), next))
 }
 
 pub fn put_signed_number(out: &mut [u8], at: usize, v: i32) -> usize

@@ -1,3 +1,4 @@
 pub mod Formats
 pub mod Local
 pub mod Lists
+pub mod Answered

@@ -21,45 +21,39 @@ returns-then-s-p c =
 pub bounds-s-p : goal.bounds-s-p
 bounds-s-p c = omega arith
 
-pub wide-b-requires : goal.wide-b-requires
-wide-b-requires c = tt
-
 pub overflow_mul-v : goal.overflow_mul-v
 overflow_mul-v c =
     let l = c.loop-p in
     let k = c.type_inv.s l.p in
-    let m = group-most _ l.unit c.wide-b.result l.invariant.4 l.invariant.2 (omega arith) in
+    let m = group-most _ l.unit (get_or c.args.s.now l.p 0) l.invariant.4 l.invariant.2 (omega arith) in
     omega arith
 
 pub overflow_add-v : goal.overflow_add-v
 overflow_add-v c =
     let l = c.loop-p in
     let k = c.type_inv.s l.p in
-    let m = group-most _ l.unit c.wide-b.result l.invariant.4 l.invariant.2 (omega arith) in
+    let m = group-most _ l.unit (get_or c.args.s.now l.p 0) l.invariant.4 l.invariant.2 (omega arith) in
     omega arith
 
 pub returns-then-v-ge4294967296 : goal.returns-then-v-ge4294967296
 returns-then-v-ge4294967296 c =
     let l = c.loop-p in
     let x = c.args in
-    let w = c.wide-b.ensures in
-    sym (large x.at l.p l.a l.unit (get_or x.s.now l.p 0) 1 (rw w at c.if-v-ge4294967296.true))
+    sym (large x.at l.p l.a l.unit (get_or x.s.now l.p 0) 1 c.if-v-ge4294967296.true)
     ∙ sym (last-group x.s.now x.at l.p l.a l.unit (omega arith) (omega arith)) ∙ l.invariant.0
 
 pub returns-then-at-p : goal.returns-then-at-p
 returns-then-at-p c =
     let l = c.loop-p in
     let x = c.args in
-    let w = c.wide-b.ensures in
-    sym (not-shortest x.at l.p l.a l.unit (get_or x.s.now l.p 0) 1 (rw w at c.if-v-ge4294967296.false) (rw w at c.if-at-p.true))
+    sym (not-shortest x.at l.p l.a l.unit (get_or x.s.now l.p 0) 1 c.if-v-ge4294967296.false c.if-at-p.true)
     ∙ sym (last-group x.s.now x.at l.p l.a l.unit (omega arith) (omega arith)) ∙ l.invariant.0
 
 pub returns-then-b-lt128 : goal.returns-then-b-lt128
 returns-then-b-lt128 c =
     let l = c.loop-p in
     let x = c.args in
-    let w = c.wide-b.ensures in
-    rw w (sym (fine x.at l.p l.a l.unit (get_or x.s.now l.p 0) 1 (rw w at c.if-v-ge4294967296.false) (rw w at c.if-at-p.false))
+    (sym (fine x.at l.p l.a l.unit (get_or x.s.now l.p 0) 1 c.if-v-ge4294967296.false c.if-at-p.false)
     ∙ sym (last-group x.s.now x.at l.p l.a l.unit (omega arith) (omega arith)) ∙ l.invariant.0)
 
 pub returns-then-unit-ge268435456 : goal.returns-then-unit-ge268435456
@@ -67,21 +61,20 @@ returns-then-unit-ge268435456 c =
     let l = c.loop-p in
     let x = c.args in
     let k = c.type_inv.s l.p in
-    let w = c.wide-b.ensures in
     sym (sixth x.s.now x.at l.p l.a l.unit (omega arith) (omega arith) (omega arith) l.invariant.3 c.if-unit-ge268435456.true) ∙ l.invariant.0
 
 pub overflow_mul-a : goal.overflow_mul-a
 overflow_mul-a c =
     let l = c.loop-p in
     let k = c.type_inv.s l.p in
-    let m = next-value l.a l.unit (c.wide-b.result - 128) l.invariant.1 (omega arith) in
+    let m = next-value l.a l.unit (get_or c.args.s.now l.p 0 - 128) l.invariant.1 (omega arith) in
     omega arith
 
 pub overflow_add-a : goal.overflow_add-a
 overflow_add-a c =
     let l = c.loop-p in
     let k = c.type_inv.s l.p in
-    let m = next-value l.a l.unit (c.wide-b.result - 128) l.invariant.1 (omega arith) in
+    let m = next-value l.a l.unit (get_or c.args.s.now l.p 0 - 128) l.invariant.1 (omega arith) in
     omega arith
 
 pub overflow_mul-unit : goal.overflow_mul-unit
@@ -98,11 +91,10 @@ loop-p-preserved c =
     let l = c.loop-p in
     let x = c.args in
     let k = c.type_inv.s l.p in
-    let w = c.wide-b.ensures in
     let g = group-room _ l.unit l.invariant.2 c.if-unit-ge268435456.false in
     let n : l.p + 1 - x.at ≡ suc (l.p - x.at) = omega arith in (
-      rw w (sym (goes_on x.s.now x.at l.p l.a l.unit (omega arith) (omega arith) (omega arith) l.invariant.3 (omega arith)) ∙ l.invariant.0),
-      next-value l.a l.unit (c.wide-b.result - 128) l.invariant.1 (omega arith),
+      (sym (goes_on x.s.now x.at l.p l.a l.unit (omega arith) (omega arith) (omega arith) l.invariant.3 (omega arith)) ∙ l.invariant.0),
+      next-value l.a l.unit (get_or c.args.s.now l.p 0 - 128) l.invariant.1 (omega arith),
       rw n g.1,
       omega arith,
       omega (arith, g.0),

@@ -1,18 +1,21 @@
 -- `number::read_signed_number` answers `read_signed`: what `read_number` answered, received.
+use Rattle.std.proofs.Common.{drop, ℤ, w32, to_z, of_z, ◌≡◌, Ok, ℕ}
 use mathlib.Core.Path.{sym, ap, ◌∙◌}
-use lib.IntN.{ℤ}
-use mir.Syntax.{w32}
 use mir.Facts.{to_z-of_z}
-use Rattle.number.specs.declared.SignedNumberAnswer.TheVariants.{SignedNumber}
-use Rattle.number.proofs.Answers.{signed-value, signed-refusal}
+use Rattle.refusal.proofs.Answered.{answered-map, refused-map, handed}
+use Rattle.number.specs.Number.{read_number}
+use Rattle.number.specs.SignedNumber.{received, read_signed}
 use Rattle.number.proofs.read_signed_number.Goals as goal
 
-pub returns-in-Number : goal.returns-in-Number
-returns-in-Number c =
-    let at = c.args.at in
-    ap (λ (z : ℤ). SignedNumber z c.in-Number.next) (to_z-of_z {w = w32} (record { sfits = c.received_of.type_inv }) ∙ c.received_of.ensures)
-    ∙ signed-value at _ _ _ (sym c.in-Number.is ∙ c.read_number.ensures)
+pub returns-in_err-n : goal.returns-in_err-n
+unfolding read_signed
+returns-in_err-n c =
+    let a = c.args in
+    handed _ _ c.from_residual.ensures ∙ refused-map received a.at (read_number (drop a.at a.s.now)) _ (sym (c.in_err-n.was) ∙ c.read_number.ensures)
 
-pub returns-in-Refused : goal.returns-in-Refused
-returns-in-Refused c =
-    signed-refusal c.args.at _ _ (sym c.in-Refused.is ∙ c.read_number.ensures)
+pub returns : goal.returns
+unfolding read_signed
+returns c =
+    let a = c.args in
+    ap (λ (z : ℤ). Ok (z, c.in_ok-n.next)) (to_z-of_z {w = w32} (record { sfits = c.received_of.type_inv }) ∙ c.received_of.ensures)
+    ∙ answered-map received a.at (read_number (drop a.at a.s.now)) _ _ (sym c.in_ok-n.was ∙ c.read_number.ensures)

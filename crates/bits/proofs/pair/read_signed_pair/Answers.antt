@@ -8,7 +8,7 @@ use lib.ListN.{drop}
 use mir.Syntax.{w32}
 use mir.Facts.{to_z-of_z}
 use Rattle.bits.specs.Bits.{bit_list}
-use Rattle.bits.specs.declared.pair.PairAnswer.TheVariants.{Pair}
+use Rattle.std.specs.Prelude.{Ok}
 use Rattle.bits.proofs.Table.{neither}
 use Rattle.bits.proofs.Pairs.{passed-half, signed-here, pair_found}
 use Rattle.bits.proofs.pair.read_signed_pair.Goals as goal
@@ -28,4 +28,4 @@ returns c =
     let second = signed-here (w.result * 2 ^ (f.result.before + 1) % 2 ^ 32) (25 - (f.result.before + 1)) g.result.before g.result.head (drop (f.result.before + 1) (drop a.at s)) (omega arith) shown g.ensures k in
     let y = to_z-of_z {w = w32} (record { sfits = c.signed_of-y.type_inv }) ∙ c.signed_of-y.ensures in
     let x = to_z-of_z {w = w32} (record { sfits = c.signed_of-x.type_inv }) ∙ c.signed_of-x.ensures in
-    (λ i. Pair (y i) (x i) (a.at + (f.result.before + 1 + (g.result.before + 1)))) ∙ pair_found s a.at (f.result.before + 1) (g.result.before + 1) _ _ first second
+    (λ i. Ok ((y i, x i), a.at + (f.result.before + 1 + (g.result.before + 1)))) ∙ pair_found s a.at (f.result.before + 1) (g.result.before + 1) _ _ first second

@@ -1,25 +1,26 @@
 -- `bits::svq3_mv::read_signed_code` answers `signed_code` at its place: the universal code's answer, with the code's signed value.
+use Rattle.std.proofs.Common.{drop, ℤ, w32, to_z, of_z, ◌≡◌, Ok, ℕ}
 use mathlib.Core.Path.{sym, ap, ◌∙◌}
-use lib.IntN.{ℤ}
-use mir.Syntax.{w32}
 use mir.Facts.{to_z-of_z}
-use Rattle.bits.specs.declared.svq3_mv.SignedAnswer.TheVariants.{Value}
-use Rattle.bits.proofs.Answers.{code-range, signed-value, signed-refusal}
+use Rattle.refusal.proofs.Answered.{answered-map, refused-map, handed}
+use Rattle.bits.specs.Bits.{bit_list}
+use Rattle.bits.specs.Code.{code}
+use Rattle.bits.specs.Signed.{signed_of, signed_code}
+use Rattle.bits.proofs.Unique.{code-range}
 use Rattle.bits.proofs.svq3_mv.read_signed_code.Goals as goal
 
--- src/svq3_mv.rt:31:58
 pub signed_of-requires : goal.signed_of-requires
-signed_of-requires c =
-    code-range c.args.at _ _ _ (sym c.in-Code.is ∙ c.read_universal_code.ensures)
+signed_of-requires c = code-range c.args.at _ _ _ (sym c.in_ok-k.was ∙ c.read_universal_code.ensures)
 
--- src/svq3_mv.rt:26:1
-pub returns-in-Code : goal.returns-in-Code
-returns-in-Code c =
+pub returns-in_err-k : goal.returns-in_err-k
+unfolding signed_code
+returns-in_err-k c =
     let a = c.args in
-    ap (λ (z : ℤ). Value z c.in-Code.next) (to_z-of_z {w = w32} (record { sfits = c.signed_of.type_inv }) ∙ c.signed_of.ensures) ∙
-    signed-value a.at _ _ _ (sym c.in-Code.is ∙ c.read_universal_code.ensures)
+    handed _ _ c.from_residual.ensures ∙ refused-map signed_of a.at (code (drop a.at (bit_list a.bits.now))) _ (sym c.in_err-k.was ∙ c.read_universal_code.ensures)
 
--- src/svq3_mv.rt:26:1
-pub returns-in-Refused : goal.returns-in-Refused
-returns-in-Refused c =
-    signed-refusal c.args.at _ _ (sym c.in-Refused.is ∙ c.read_universal_code.ensures)
+pub returns : goal.returns
+unfolding signed_code
+returns c =
+    let a = c.args in
+    ap (λ (z : ℤ). Ok (z, c.in_ok-k.next)) (to_z-of_z {w = w32} (record { sfits = c.signed_of.type_inv }) ∙ c.signed_of.ensures)
+    ∙ answered-map signed_of a.at (code (drop a.at (bit_list a.bits.now))) _ _ (sym c.in_ok-k.was ∙ c.read_universal_code.ensures)

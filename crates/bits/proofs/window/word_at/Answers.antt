@@ -1,15 +1,19 @@
 -- `bits::window::word_at`: its eight bytes, one by one, are what the word shows.
+use mathlib.Core.Path.{◌≡◌, refl, sym, subst, ◌∙◌}
+use Prim.Native.Nat.{ℕ, ◌+◌, ◌*◌, ◌^◌, ◌<◌}
+use native.Mathlib.Omega.{arith}
+use lib.ListN.{get_or, drop}
+use Rattle.bits.specs.Bits.{bit_list}
+use Rattle.bits.specs.InnerWindow.{Shows}
 use Rattle.bits.proofs.Windows.{word-shows}
 use Rattle.bits.proofs.window.word_at.Goals as goal
 
 pub returns : goal.returns
 returns c =
-    let b1 = c.wide in
-    let b2 = c.wide-2 in
-    let b3 = c.wide-3 in
-    let b4 = c.wide-4 in
-    let b5 = c.wide-5 in
-    let b6 = c.wide-6 in
-    let b7 = c.wide-7 in
-    let b8 = c.wide-8 in
-    word-shows c.args.bits.now c.args.i b1.result b2.result b3.result b4.result b5.result b6.result b7.result b8.result (b2.ensures.1, b3.ensures.1, b4.ensures.1, b5.ensures.1, b6.ensures.1, b7.ensures.1, b8.ensures.1) b1.ensures.0 b2.ensures.0 b3.ensures.0 b4.ensures.0 b5.ensures.0 b6.ensures.0 b7.ensures.0 b8.ensures.0 c.requires
+    let s = c.args.bits.now in
+    let i = c.args.i in
+    let b = λ (k : ℕ). get_or s (i + k) 0 in
+    let small : (k : ℕ) → b k < 256 = λ k. omega (arith, c.type_inv.bits (i + k)) in
+    let same : (get_or s i 0 * 2 ^ 24 + b 1 * 2 ^ 16 + b 2 * 2 ^ 8 + b 3) * 2 ^ 32 + (b 4 * 2 ^ 24 + b 5 * 2 ^ 16 + b 6 * 2 ^ 8 + b 7) ≡ c.from_be_bytes.result = sym (c.from_be_bytes.ensures ∙ omega arith) in
+    subst (λ (w : ℕ). Shows w 64 (drop (8 * i) (bit_list s))) same
+    (word-shows s i (get_or s i 0) (b 1) (b 2) (b 3) (b 4) (b 5) (b 6) (b 7) (small 1, small 2, small 3, small 4, small 5, small 6, small 7) refl refl refl refl refl refl refl refl c.requires)
