@@ -3,12 +3,12 @@
 use mathlib.Core.Path.{◌≡◌, refl}
 use Prim.Native.Nat.{◌^◌}
 use Rattle.refusal.specs.declared.Refusal.TheVariants.{BitPlace}
-use Rattle.state.specs.Questions.{place_in, ask_place}
-use Rattle.state.specs.declared.Asked.TheVariants.{Yes, No}
+use Rattle.state.specs.Questions.{asked, place_in, ask_place}
+use Rattle.std.specs.Prelude.{Err}
 
 pub examples :
-    (ask_place 2 16 Yes ≡ Yes)
-    × (ask_place 2 17 Yes ≡ No BitPlace)
-    × (ask_place (2 ^ 61) 0 Yes ≡ No BitPlace)
+    (ask_place 2 16 asked ≡ asked)
+    × (ask_place 2 17 asked ≡ Err BitPlace)
+    × (ask_place (2 ^ 61) 0 asked ≡ Err BitPlace)
 unfolding place_in ask_place
 examples = (refl, refl, refl)

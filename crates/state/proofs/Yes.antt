@@ -1,29 +1,18 @@
 -- What yes to the questions of a call says.
 -- Assumes nothing.
-use mathlib.Core.Path.{◌≡◌, refl}
-use mathlib.Core.Bool.{Bool, true, false, ◌&&◌}
+use mathlib.Core.Path.{◌≡◌}
+use mathlib.Core.Bool.{true, ◌&&◌}
 use Prim.Native.Nat.{ℕ, ◌*◌, ◌^◌, ◌≤◌, ◌<◌}
-use native.Mathlib.Omega.{arith}
 use borrow.Author.Tests.{leb-true, ltb-true, eqb-true}
 use lib.Dec.{eqb, leb, ltb}
-use Rattle.refusal.specs.declared.Refusal.{Refusal}
 use Rattle.picture.specs.InnerPicture.{Sized}
 use Rattle.picture.specs.Picture.{luma_length, chroma_length, cell_count}
-use Rattle.state.specs.Questions.{then_ask, grid_right, planes_right, state_right, reference_there, call_right, place_in, ask_start, ask_quantiser, ask_place, ask_rest, ask_call}
+use Rattle.state.specs.Questions.{Asked, asked, grid_right, planes_right, state_right, reference_there, call_right, place_in, ask_start, ask_quantiser, ask_place, ask_rest, ask_call}
 use Rattle.state.specs.InnerSizes.{AllSized}
 use Rattle.state.specs.declared.Call.{Call}
 use Rattle.state.specs.declared.Lengths.{Lengths}
-use Rattle.state.specs.declared.Asked.{Asked}
-use Rattle.state.specs.declared.Asked.TheVariants.{Yes, No}
 use Rattle.picture.proofs.Laws.{both_true}
-use Rattle.state.proofs.Laws.{GridRange, grid-range}
-
-no-yes : {A : Type 0} {why : Refusal} → No why ≡ Yes → A
-no-yes e = absurd (let z : ◌≡◌ {A = ℕ} 0 1 = cc in omega arith)
-
-ask-yes : (t : Bool) (why : Refusal) (next : Asked) → then_ask t why next ≡ Yes → (t ≡ true) × (next ≡ Yes)
-ask-yes true why next e = (refl, e)
-ask-yes false why next e = no-yes e
+use Rattle.state.proofs.Laws.{GridRange, grid-range, ask-yes}
 
 -- 1 to 4 passed, and what follows was asked
 pub record Started (cols rows : ℕ) (l : Lengths) (next : Asked) : Type 0 where
@@ -31,9 +20,9 @@ pub record Started (cols rows : ℕ) (l : Lengths) (next : Asked) : Type 0 where
   pub two : state_right cols rows l ≡ true
   pub three : reference_there l ≡ true
   pub four : planes_right cols rows l.ry l.rcb l.rcr ≡ true
-  pub others : next ≡ Yes
+  pub others : next ≡ asked
 
-pub started : (cols rows : ℕ) (l : Lengths) (next : Asked) → ask_start cols rows l next ≡ Yes → Started cols rows l next
+pub started : (cols rows : ℕ) (l : Lengths) (next : Asked) → ask_start cols rows l next ≡ asked → Started cols rows l next
 unfolding ask_start
 started cols rows l next e =
     let a = ask-yes (grid_right cols rows) _ _ e in
@@ -71,7 +60,7 @@ pub record Rest (cols rows : ℕ) (call : Call) (quantiser size place free : ℕ
   pub size_fits : size < 2 ^ 61
   pub free_bytes : 2089 ≤ free
 
-pub rest-yes : (cols rows : ℕ) (call : Call) (quantiser size place free : ℕ) → ask_rest cols rows call quantiser size place free ≡ Yes → Rest cols rows call quantiser size place free
+pub rest-yes : (cols rows : ℕ) (call : Call) (quantiser size place free : ℕ) → ask_rest cols rows call quantiser size place free ≡ asked → Rest cols rows call quantiser size place free
 unfolding ask_rest ask_quantiser ask_place call_right place_in
 rest-yes cols rows call quantiser size place free e =
     let c = ask-yes (leb call.mode 7 && ltb call.column cols && ltb call.row rows) _ _ e in
@@ -96,7 +85,7 @@ pub record Called (cols rows : ℕ) (l : Lengths) (call : Call) (quantiser size 
   pub sized : AllSized cols rows l
   pub rest : Rest cols rows call quantiser size place free
 
-pub call-yes : (cols rows : ℕ) (l : Lengths) (call : Call) (quantiser size place free : ℕ) → ask_call cols rows l call quantiser size place free ≡ Yes → Called cols rows l call quantiser size place free
+pub call-yes : (cols rows : ℕ) (l : Lengths) (call : Call) (quantiser size place free : ℕ) → ask_call cols rows l call quantiser size place free ≡ asked → Called cols rows l call quantiser size place free
 unfolding ask_call
 call-yes cols rows l call quantiser size place free e =
     let st = started cols rows l _ e in

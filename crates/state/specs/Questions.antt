@@ -1,18 +1,23 @@
 -- The questions before a macroblock, in document 01's order; the first "no" answers.
 -- Assumes nothing.
-use Rattle.std.specs.Prelude.{Bool, true, false, ◌&&◌, ◌||◌, ℕ, ◌*◌, ◌^◌, eqb, leb, ltb}
+use Rattle.std.specs.Prelude.{Bool, true, false, ◌&&◌, ◌||◌, ℕ, ◌*◌, ◌^◌, eqb, leb, ltb, Result, Ok, Err}
 use Rattle.refusal.specs.declared.Refusal.{Refusal}
 use Rattle.refusal.specs.declared.Refusal.TheVariants.{GridSize, StateLength, MissingReference, ReferenceLength, CallRange, QuantiserRange, BitPlace, TranscriptRoom}
 use Rattle.picture.specs.Picture.{luma_length, chroma_length, cell_count}
 use Rattle.state.specs.declared.Call.{Call}
 use Rattle.state.specs.declared.Lengths.{Lengths}
-use Rattle.state.specs.declared.Asked.{Asked}
-use Rattle.state.specs.declared.Asked.TheVariants.{Yes, No}
+
+-- the answer to questions: the first refusal, or none
+abbrev pub Asked : Type 0
+Asked = Result (Unit {0}) Refusal
+
+abbrev pub asked : Asked
+asked = Ok tt
 
 -- where the answer is yes the next question is asked
 abbrev pub then_ask : Bool → Refusal → Asked → Asked
 then_ask true why next = next
-then_ask false why next = No why
+then_ask false why next = Err why
 
 -- 1: a grid of 1 to 4,096 both ways
 unfoldable pub grid_right : ℕ → ℕ → Bool
@@ -60,7 +65,7 @@ ask_rest cols rows call quantiser size place free =
     then_ask (call_right cols rows call) CallRange
     (ask_quantiser quantiser
     (ask_place size place
-    (then_ask (leb 2089 free) TranscriptRoom Yes)))
+    (then_ask (leb 2089 free) TranscriptRoom asked)))
 
 -- 1 to 8: of a call
 unfoldable pub ask_call : ℕ → ℕ → Lengths → Call → ℕ → ℕ → ℕ → ℕ → Asked
@@ -68,11 +73,11 @@ ask_call cols rows l call quantiser size place free = ask_start cols rows l (ask
 
 -- 1 to 4, 6 and 7: of a run with no call
 unfoldable pub ask_run : ℕ → ℕ → Lengths → ℕ → ℕ → ℕ → Asked
-ask_run cols rows l quantiser size place = ask_start cols rows l (ask_quantiser quantiser (ask_place size place Yes))
+ask_run cols rows l quantiser size place = ask_start cols rows l (ask_quantiser quantiser (ask_place size place asked))
 
 -- 1 to 4 and 6: of a replay
 unfoldable pub ask_replay : ℕ → ℕ → Lengths → ℕ → Asked
-ask_replay cols rows l quantiser = ask_start cols rows l (ask_quantiser quantiser Yes)
+ask_replay cols rows l quantiser = ask_start cols rows l (ask_quantiser quantiser asked)
 
 -- of a plane (2), and of a block and its output (5), where a compensated block alone is asked for: 1 to `most` samples a side, and a length that matches
 unfoldable pub sides_fit : ℕ → ℕ → ℕ → ℕ → Bool

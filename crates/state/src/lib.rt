@@ -2,7 +2,7 @@
 // Grid, flags, call, cursor and lengths, and the questions before a macroblock: on numbers alone, the lengths of the slices among them.
 
 ghost use Rattle.std.specs.Prelude.{◌≡◌, true, ◌≤◌};
-ghost use Rattle.state.specs.Questions.{grid_right, planes_right, state_right, reference_there, call_right, ask_start, ask_place, ask_rest, ask_call, ask_run, ask_replay, sides_fit};
+ghost use Rattle.state.specs.Questions.{grid_right, planes_right, state_right, reference_there, call_right, place_in, asked, then_ask, ask_start, ask_quantiser, ask_place, ask_rest, ask_call, ask_run, ask_replay, sides_fit};
 
 use picture::Grid;
 use refusal::Refusal;
@@ -49,12 +49,6 @@ pub struct Lengths {
     pub rcr: usize,
 }
 
-#[derive(Clone, Copy)]
-pub enum Asked {
-    Yes,
-    No(Refusal),
-}
-
 pub fn grid_right(grid: Grid) -> bool
     ensures { result ≡ grid_right grid.cols grid.rows }
 {
@@ -89,82 +83,84 @@ fn call_right(grid: Grid, call: Call) -> bool
     (call.mode <= 7) & ((call.column as usize) < grid.cols) & ((call.row as usize) < grid.rows)
 }
 
-// Questions 1 to 4.
-fn ask_start(grid: Grid, l: Lengths) -> Asked
-    ensures { result ≡ ask_start grid.cols grid.rows l Asked.Yes }
+// Whether the place of question 7 lies in a bit slice of `size` bytes.
+fn place_in(size: usize, place: usize) -> bool
+    ensures { result ≡ place_in size place }
 {
-    if grid_right(grid) {
-        if state_right(grid, l) {
-            if reference_there(l) {
-                if planes_right(grid, l.ry, l.rcb, l.rcr) {
-                    return Asked::Yes;
-                }
-                return Asked::No(Refusal::ReferenceLength);
-            }
-            return Asked::No(Refusal::MissingReference);
-        }
-        return Asked::No(Refusal::StateLength);
-    }
-    Asked::No(Refusal::GridSize)
+    size < 0x2000_0000_0000_0000 && place <= 8 * size
+}
+
+// A question: the refusal where the answer is no.
+fn ask(yes: bool, why: Refusal) -> Result<(), Refusal>
+    ensures { result ≡ then_ask yes why asked }
+{
+    if yes { Ok(()) } else { Err(why) }
+}
+
+// Questions 1 to 4.
+fn ask_start(grid: Grid, l: Lengths) -> Result<(), Refusal>
+    ensures { result ≡ ask_start grid.cols grid.rows l asked }
+{
+    ask(grid_right(grid), Refusal::GridSize)?;
+    ask(state_right(grid, l), Refusal::StateLength)?;
+    ask(reference_there(l), Refusal::MissingReference)?;
+    ask(
+        planes_right(grid, l.ry, l.rcb, l.rcr),
+        Refusal::ReferenceLength,
+    )
+}
+
+// Question 6.
+fn ask_quantiser(quantiser: u32) -> Result<(), Refusal>
+    ensures { result ≡ ask_quantiser quantiser asked }
+{
+    ask(quantiser <= 31, Refusal::QuantiserRange)
 }
 
 // Question 7, of a bit slice of `size` bytes.
-fn ask_place(size: usize, place: usize) -> Asked
-    ensures { result ≡ ask_place size place Asked.Yes }
+fn ask_place(size: usize, place: usize) -> Result<(), Refusal>
+    ensures { result ≡ ask_place size place asked }
 {
-    if size < 0x2000_0000_0000_0000 {
-        if place <= 8 * size {
-            return Asked::Yes;
-        }
-    }
-    Asked::No(Refusal::BitPlace)
+    ask(place_in(size, place), Refusal::BitPlace)
 }
 
 // Questions 1 to 4 and 6: of a replay.
-pub fn ask_replay(grid: Grid, l: Lengths, quantiser: u32) -> Asked
+pub fn ask_replay(grid: Grid, l: Lengths, quantiser: u32) -> Result<(), Refusal>
     ensures { result ≡ ask_replay grid.cols grid.rows l quantiser }
 {
-    match ask_start(grid, l) {
-        Asked::Yes => {
-            if quantiser <= 31 {
-                Asked::Yes
-            } else {
-                Asked::No(Refusal::QuantiserRange)
-            }
-        }
-        Asked::No(why) => Asked::No(why),
-    }
+    ask_start(grid, l)?;
+    ask_quantiser(quantiser)
 }
 
 // Questions 1 to 4, 6 and 7: of a run with no call.
-pub fn ask_run(grid: Grid, l: Lengths, quantiser: u32, size: usize, place: usize) -> Asked
+pub fn ask_run(
+    grid: Grid,
+    l: Lengths,
+    quantiser: u32,
+    size: usize,
+    place: usize,
+) -> Result<(), Refusal>
     ensures { result ≡ ask_run grid.cols grid.rows l quantiser size place }
 {
-    match ask_replay(grid, l, quantiser) {
-        Asked::Yes => ask_place(size, place),
-        Asked::No(why) => Asked::No(why),
-    }
+    ask_replay(grid, l, quantiser)?;
+    ask_place(size, place)
 }
 
 // Questions 5 to 8.
-fn ask_rest(grid: Grid, call: Call, quantiser: u32, size: usize, place: usize, free: usize) -> Asked
+fn ask_rest(
+    grid: Grid,
+    call: Call,
+    quantiser: u32,
+    size: usize,
+    place: usize,
+    free: usize,
+) -> Result<(), Refusal>
     ensures { result ≡ ask_rest grid.cols grid.rows call quantiser size place free }
 {
-    if call_right(grid, call) {
-        if quantiser <= 31 {
-            match ask_place(size, place) {
-                Asked::Yes => {
-                    if 2089 <= free {
-                        return Asked::Yes;
-                    }
-                    return Asked::No(Refusal::TranscriptRoom);
-                }
-                Asked::No(why) => return Asked::No(why),
-            }
-        }
-        return Asked::No(Refusal::QuantiserRange);
-    }
-    Asked::No(Refusal::CallRange)
+    ask(call_right(grid, call), Refusal::CallRange)?;
+    ask_quantiser(quantiser)?;
+    ask_place(size, place)?;
+    ask(2089 <= free, Refusal::TranscriptRoom)
 }
 
 // Questions 1 to 8: of a call.
@@ -176,13 +172,11 @@ pub fn ask_call(
     size: usize,
     place: usize,
     free: usize,
-) -> Asked
+) -> Result<(), Refusal>
     ensures { result ≡ ask_call grid.cols grid.rows l call quantiser size place free }
 {
-    match ask_start(grid, l) {
-        Asked::Yes => ask_rest(grid, call, quantiser, size, place, free),
-        Asked::No(why) => Asked::No(why),
-    }
+    ask_start(grid, l)?;
+    ask_rest(grid, call, quantiser, size, place, free)
 }
 
 // 1 to `most` samples a side, and a length that matches.
@@ -190,9 +184,5 @@ pub fn sides_fit(most: usize, w: usize, h: usize, size: usize) -> bool
     requires { most ≤ 65536 }
     ensures { result ≡ sides_fit most w h size }
 {
-    if (1 <= w) & (w <= most) & (1 <= h) & (h <= most) {
-        size == w * h
-    } else {
-        false
-    }
+    (1 <= w) & (w <= most) & (1 <= h) & (h <= most) && size == w * h
 }

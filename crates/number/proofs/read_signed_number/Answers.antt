@@ -1,5 +1,5 @@
 -- `number::read_signed_number` answers `read_signed`: what `read_number` answered, received.
-use Rattle.std.proofs.Common.{drop, ℤ, w32, to_z, of_z, ◌≡◌, Ok, ℕ}
+use Rattle.std.proofs.Common.{drop, ℤ, w32, Ok}
 use mathlib.Core.Path.{sym, ap, ◌∙◌}
 use mir.Facts.{to_z-of_z}
 use Rattle.refusal.proofs.Answered.{answered-map, refused-map, handed}

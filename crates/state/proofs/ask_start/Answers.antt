@@ -1,37 +1,46 @@
--- `state::ask_start` meets its contract: by the answers, in order.
-use mathlib.Core.Path.{sym, ◌∙◌}
-use Rattle.state.specs.Questions.{ask_start}
+-- `state::ask_start` meets its contract: each question by its answer, in order.
+use mathlib.Core.Path.{◌≡◌, sym, ◌∙◌}
+use mathlib.Core.Bool.{true}
+use Rattle.refusal.proofs.Answered.{handed}
+use Rattle.state.specs.Questions.{ask_start, grid_right, state_right, reference_there}
+use Rattle.state.proofs.Laws.{then-is, ask-yes}
+use Rattle.state.proofs.ask_start.Goals.{In_ok-ask, In_ok-ask-2, In_ok-ask-3}
 use Rattle.state.proofs.ask_start.Goals as goal
 
--- src/lib.rt:69:12
+grid-yes : (c : In_ok-ask) → grid_right c.args.grid.cols c.args.grid.rows ≡ true
+grid-yes c = sym c.grid_right.ensures ∙ (ask-yes _ _ _ (sym c.ask.ensures ∙ c.in_ok-ask.was)).0
+
+state-yes : (c : In_ok-ask-2) → state_right c.args.grid.cols c.args.grid.rows c.args.l ≡ true
+state-yes c = sym c.state_right.ensures ∙ (ask-yes _ _ _ (sym c.ask-2.ensures ∙ c.in_ok-ask-2.was)).0
+
+reference-yes : (c : In_ok-ask-3) → reference_there c.args.l ≡ true
+reference-yes c = sym c.reference_there.ensures ∙ (ask-yes _ _ _ (sym c.ask-3.ensures ∙ c.in_ok-ask-3.was)).0
+
 pub state_right-requires : goal.state_right-requires
-state_right-requires c = sym c.grid_right.ensures ∙ c.if-grid_right.true
+state_right-requires c = grid-yes (goal.at.state_right-requires c).In_ok-ask
 
--- src/lib.rt:71:20
 pub planes_right-requires : goal.planes_right-requires
-planes_right-requires c = sym c.grid_right.ensures ∙ c.if-grid_right.true
+planes_right-requires c = grid-yes (goal.at.planes_right-requires c).In_ok-ask
 
--- src/lib.rt:72:21
-pub returns-then-planes_right : goal.returns-then-planes_right
+pub returns-in_err-ask : goal.returns-in_err-ask
 unfolding ask_start
-returns-then-planes_right c = rw (sym c.grid_right.ensures ∙ c.if-grid_right.true, sym c.state_right.ensures ∙ c.if-state_right.true, sym c.reference_there.ensures ∙ c.if-reference_there.true, sym c.planes_right.ensures ∙ c.if-planes_right.true)
+returns-in_err-ask c = handed _ _ c.from_residual.ensures ∙ rw (sym c.grid_right.ensures) (sym (then-is _ _ _ _ (sym c.in_err-ask.was ∙ c.ask.ensures)))
 
--- src/lib.rt:74:17
-pub returns-then-reference_there : goal.returns-then-reference_there
+pub returns-in_err-ask-2 : goal.returns-in_err-ask-2
 unfolding ask_start
-returns-then-reference_there c = rw (sym c.grid_right.ensures ∙ c.if-grid_right.true, sym c.state_right.ensures ∙ c.if-state_right.true, sym c.reference_there.ensures ∙ c.if-reference_there.true, sym c.planes_right.ensures ∙ c.if-planes_right.false)
+returns-in_err-ask-2 c =
+    let w = (goal.at.returns-in_err-ask-2 c).In_ok-ask in
+    handed _ _ c.from_residual-in_err-ask-2.ensures ∙ rw (grid-yes w, sym c.state_right.ensures) (sym (then-is _ _ _ _ (sym c.in_err-ask-2.was ∙ c.ask-2.ensures)))
 
--- src/lib.rt:76:13
-pub returns-then-state_right : goal.returns-then-state_right
+pub returns-in_err-ask-3 : goal.returns-in_err-ask-3
 unfolding ask_start
-returns-then-state_right c = rw (sym c.grid_right.ensures ∙ c.if-grid_right.true, sym c.state_right.ensures ∙ c.if-state_right.true, sym c.reference_there.ensures ∙ c.if-reference_there.false)
+returns-in_err-ask-3 c =
+    let w = (goal.at.returns-in_err-ask-3 c).In_ok-ask in
+    let v = (goal.at.returns-in_err-ask-3 c).In_ok-ask-2 in
+    handed _ _ c.from_residual-in_err-ask-3.ensures ∙ rw (grid-yes w, state-yes v, sym c.reference_there.ensures) (sym (then-is _ _ _ _ (sym c.in_err-ask-3.was ∙ c.ask-3.ensures)))
 
--- src/lib.rt:78:9
-pub returns-then-grid_right : goal.returns-then-grid_right
-unfolding ask_start
-returns-then-grid_right c = rw (sym c.grid_right.ensures ∙ c.if-grid_right.true, sym c.state_right.ensures ∙ c.if-state_right.false)
-
--- src/lib.rt:65:1
 pub returns : goal.returns
 unfolding ask_start
-returns c = rw (sym c.grid_right.ensures ∙ c.if-grid_right.false)
+returns c =
+    let p = goal.at.returns c in
+    rw (grid-yes p.In_ok-ask, state-yes p.In_ok-ask-2, reference-yes p.In_ok-ask-3) (c.ask-4.ensures ∙ rw c.planes_right.ensures)

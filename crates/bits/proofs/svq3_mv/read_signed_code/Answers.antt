@@ -1,5 +1,5 @@
 -- `bits::svq3_mv::read_signed_code` answers `signed_code` at its place: the universal code's answer, with the code's signed value.
-use Rattle.std.proofs.Common.{drop, ℤ, w32, to_z, of_z, ◌≡◌, Ok, ℕ}
+use Rattle.std.proofs.Common.{drop, ℤ, w32, Ok}
 use mathlib.Core.Path.{sym, ap, ◌∙◌}
 use mir.Facts.{to_z-of_z}
 use Rattle.refusal.proofs.Answered.{answered-map, refused-map, handed}
