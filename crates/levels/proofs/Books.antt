@@ -13,7 +13,7 @@ use Rattle.levels.specs.Book.{half, magnitudes, runs, escape, positions, least, 
 use Rattle.levels.specs.InnerBook.{code_of}
 use Rattle.levels.specs.declared.svq3_coeff.ResidualBook.{ResidualBook}
 use Rattle.levels.specs.declared.svq3_coeff.ResidualBook.TheVariants.{NormalScan, ChromaDc}
-use Rattle.levels.specs.declared.svq3_coeff.LevelRun.TheVariants.{Pair}
+use Rattle.std.specs.Prelude.{Some}
 use Rattle.levels.proofs.ShortTable.{both_left, both_right, every, at}
 use Rattle.levels.proofs.Entries.{by_entries, by_runs, least-range, base-range}
 
@@ -209,11 +209,11 @@ code-of-resolve book zero = refl
 code-of-resolve book (suc n) = rw (ne_eqb (suc n) 0 (omega arith)) (code-of-pair book (suc n) (omega arith))
 
 -- and the code of a level other than 0 and a run of the book says them
-says-signed : (book : ResidualBook) (k m r : ℕ) (l : ℤ) → 0 < k → level_of k m ≡ l → (magnitude book k ≡ m) × (run book k ≡ r) → resolve book k ≡ Pair l r
+says-signed : (book : ResidualBook) (k m r : ℕ) (l : ℤ) → 0 < k → level_of k m ≡ l → (magnitude book k ≡ m) × (run book k ≡ r) → resolve book k ≡ Some (l, r)
 unfolding resolve level
 says-signed book k m r l h e s = rw (ne_eqb k 0 (omega arith), s.0, s.1, e)
 
-pub resolve-code : (book : ResidualBook) (l : ℤ) (r : ℕ) → 0 < nat_abs l → r < positions book → resolve book (code_of_level book l r) ≡ Pair l r
+pub resolve-code : (book : ResidualBook) (l : ℤ) (r : ℕ) → 0 < nat_abs l → r < positions book → resolve book (code_of_level book l r) ≡ Some (l, r)
 unfolding code_of_level level_of
 resolve-code book (pos m) r s h =
     let p = odd_code book m r in

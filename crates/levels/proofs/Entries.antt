@@ -16,7 +16,7 @@ use Rattle.bits.proofs.SignedCode.{neg_is}
 use Rattle.levels.specs.Book.{half, magnitudes, runs, escape, positions, least, chroma_base, escape_magnitude, magnitude, run, level_of, level, resolve}
 use Rattle.levels.specs.declared.svq3_coeff.ResidualBook.{ResidualBook}
 use Rattle.levels.specs.declared.svq3_coeff.ResidualBook.TheVariants.{NormalScan, ChromaDc}
-use Rattle.levels.specs.declared.svq3_coeff.LevelRun.TheVariants.{Pair}
+use Rattle.std.specs.Prelude.{Some}
 use Rattle.levels.proofs.ShortTable.{both_left, both_right, every, at}
 
 -- ---- a test at every entry, and at every run, of both books
@@ -63,15 +63,15 @@ negative k m o h = rw (ne_eqb (k % 2) 1 o) (neg_is m h)
 -- ---- level and run are what the book says: h is half of the code k, z the level
 module _ (book : ResidualBook) (k h : ℕ) (half_is : h ≡ half k) where
   module _ (z : ℤ) (fits : mag z < 2 ^ 31) where
-    pub entry-said : k < escape book → z ≡ level_of k (get_or (magnitudes book) h 0) → Pair (to_z w32 (of_z w32 z)) (get_or (runs book) h 0) ≡ Pair (level book k) (run book k)
+    pub entry-said : k < escape book → z ≡ level_of k (get_or (magnitudes book) h 0) → ◌≡◌ {A = ℤ × ℕ} (to_z w32 (of_z w32 z), get_or (runs book) h 0) (level book k, run book k)
     unfolding level magnitude run
     entry-said l e = rw (to_z-of_z (record { sfits = fits }), lt-ltb k (escape book) l, e, half_is)
 
-    pub escape-said : escape book ≤ k → z ≡ level_of k (escape_magnitude book (h % positions book) k) → Pair (to_z w32 (of_z w32 z)) (h % positions book) ≡ Pair (level book k) (run book k)
+    pub escape-said : escape book ≤ k → z ≡ level_of k (escape_magnitude book (h % positions book) k) → ◌≡◌ {A = ℤ × ℕ} (to_z w32 (of_z w32 z), h % positions book) (level book k, run book k)
     unfolding level magnitude run
     escape-said l e = rw (to_z-of_z (record { sfits = fits }), le-ltb k (escape book) l, e, half_is)
 
 -- ---- what a code other than 0 says
-pub resolves : (book b : ResidualBook) (k : ℕ) → book ≡ b → (k ≡ 0 → ⊥) → Pair (level b k) (run b k) ≡ resolve book k
+pub resolves : (book b : ResidualBook) (k : ℕ) → book ≡ b → (k ≡ 0 → ⊥) → Some (level b k, run b k) ≡ resolve book k
 unfolding resolve
 resolves book b k e n = rw (ne_eqb k 0 n, e)

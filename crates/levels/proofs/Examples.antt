@@ -13,15 +13,15 @@ use Rattle.levels.specs.Book.{magnitudes, runs, least, chroma_base, escape_magni
 use Rattle.levels.specs.Scan.{scan, raster}
 use Rattle.levels.specs.Levels.{zeros, level_run, levels_from, levels, level_bits, block}
 use Rattle.levels.specs.declared.svq3_coeff.ResidualBook.TheVariants.{NormalScan, ChromaDc}
-use Rattle.levels.specs.declared.svq3_coeff.LevelRun.TheVariants.{End, Pair}
+use Rattle.std.specs.Prelude.{Some, None}
 
 pub books :
-    (resolve NormalScan 0 ≡ End)
-    × (resolve NormalScan 31 ≡ Pair (pos 5) 0)
-    × (resolve NormalScan 33 ≡ Pair (pos 3) 1)
-    × (resolve NormalScan 30 ≡ Pair (negsuc 3) 0)
-    × (resolve ChromaDc 23 ≡ Pair (pos 5) 0)
-    × (resolve ChromaDc 25 ≡ Pair (pos 4) 1)
+    (resolve NormalScan 0 ≡ None)
+    × (resolve NormalScan 31 ≡ Some (pos 5, 0))
+    × (resolve NormalScan 33 ≡ Some (pos 3, 1))
+    × (resolve NormalScan 30 ≡ Some (negsuc 3, 0))
+    × (resolve ChromaDc 23 ≡ Some (pos 5, 0))
+    × (resolve ChromaDc 25 ≡ Some (pos 4, 1))
     × (code_of_level NormalScan (pos 3) 1 ≡ 33)
     × (code_of_level NormalScan (negsuc 3) 0 ≡ 30)
     × (code_of_level ChromaDc (pos 4) 1 ≡ 25)

@@ -15,10 +15,12 @@ use Rattle.refusal.proofs.Formats.{got-value, never}
 use Rattle.levels.specs.Book.{positions}
 use Rattle.levels.specs.Pattern.{class_of}
 use Rattle.levels.specs.Levels.{zeros, block}
-use Rattle.levels.specs.InnerLevels.{list_answer, left_in, Decoded}
+use Rattle.refusal.specs.Answered.{reached}
+use Rattle.levels.specs.InnerLevels.{left_in, Decoded}
 use Rattle.levels.specs.declared.svq3_coeff.ResidualBook.{ResidualBook}
-use Rattle.levels.specs.declared.svq3_coeff.ListAnswer.{ListAnswer}
-use Rattle.levels.specs.declared.svq3_coeff.ListAnswer.TheVariants.{End, Refused}
+use Rattle.refusal.specs.declared.Refusal.{Refusal}
+use Rattle.std.specs.Prelude.{Result}
+use Rattle.std.specs.Prelude.{Ok, Err}
 use Rattle.levels.specs.Items.{item_coded, item_count, item_place, read_lists, read_item, read_items}
 use Rattle.levels.specs.InnerAnswers.{Left}
 use Rattle.levels.specs.InnerSides.{read_side}
@@ -123,7 +125,7 @@ module _ (pattern : ℕ) where
   none_left (suc n) i c ls s = left_passed n i ls s (c i (omega arith) (omega arith)) ∙ none_left n (suc i) (λ j a b. c j (omega arith) (omega arith)) ls s
 
 -- what the answer says of the levels that were read
-pub items_left : (n i pattern : ℕ) (ls : List ℤ) (s : List Bool) (at : ℕ) (answer : ListAnswer) (out : List ℤ) → Leaves (read_items n i pattern) (left_items n i pattern) ls s at answer out → Left at (read_items n i pattern ls (drop at s)) answer out
+pub items_left : (n i pattern : ℕ) (ls : List ℤ) (s : List Bool) (at : ℕ) (answer : Result ℕ Refusal) (out : List ℤ) → Leaves (read_items n i pattern) (left_items n i pattern) ls s at answer out → Left at (read_items n i pattern ls (drop at s)) answer out
 items_left n i pattern ls s at answer out l = record { answers = l.answers; leaves = λ xs k e. l.leaves ∙ left-read pattern n i ls (drop at s) xs k e }
 
 -- ---- side by side
@@ -138,18 +140,18 @@ all_left_lem book start pattern (suc n) i m k c place p ls s =
 
 module _ {book : ResidualBook} {start n i : ℕ} (d : Side book start n i) (pattern : ℕ) (ls : List ℤ) (s : List Bool) (at : ℕ) where
   -- a group that is coded, and one that is not
-  pub side-leaves : item_coded pattern i ≡ true → (place : ℕ) → place ≡ item_place i → (answer : ListAnswer) (out : List ℤ) → Leaves (read_side book start n place) (left_side book start n place) ls s at answer out
+  pub side-leaves : item_coded pattern i ≡ true → (place : ℕ) → place ≡ item_place i → (answer : Result ℕ Refusal) (out : List ℤ) → Leaves (read_side book start n place) (left_side book start n place) ls s at answer out
       → Leaves (read_items n i pattern) (left_items n i pattern) ls s at answer out
   side-leaves t place p answer out l =
       record {
-        answers = l.answers ∙ ap (list_answer at) (sym (side-read d pattern t place p ls (drop at s)));
+        answers = l.answers ∙ ap (reached at) (sym (side-read d pattern t place p ls (drop at s)));
         leaves = l.leaves ∙ sym (all_left_lem book start pattern n i d.most d.kind (λ j a b. d.same pattern j a b ∙ t) place p ls (drop at s));
       }
 
-  pub side-passed : item_coded pattern i ≡ false → Leaves (read_items n i pattern) (left_items n i pattern) ls s at (End at) ls
+  pub side-passed : item_coded pattern i ≡ false → Leaves (read_items n i pattern) (left_items n i pattern) ls s at (Ok at) ls
   side-passed t =
       record {
-        answers = ap End (sym (add-zero at)) ∙ ap (list_answer at) (sym (side-unread d pattern t ls (drop at s)));
+        answers = ap Ok (sym (add-zero at)) ∙ ap (reached at) (sym (side-unread d pattern t ls (drop at s)));
         leaves = sym (none_left pattern n i (λ j a b. d.same pattern j a b ∙ t) ls (drop at s));
       }
 
@@ -168,8 +170,8 @@ module _ {read : List ℤ → List Bool → Got (List ℤ)} {left : List ℤ →
 
   -- a part, which leaves `stop` where it is refused, then what f reads and k leaves behind it
   module _ (p : ℕ) (part : Got (List ℤ)) (stop : List ℤ) (f : List ℤ → List Bool → Got (List ℤ)) (k : List ℤ → List Bool → List ℤ)
-      (g : Goes read left ls₀ s at p (and_then part (drop p s) f) (or_stop part (drop p s) stop k)) (answer : ListAnswer) (out : List ℤ) (l : Left p part answer out) where
-    goes_on : (next : ℕ) → answer ≡ End next → Goes read left ls₀ s at next (f out (drop next s)) (k out (drop next s))
+      (g : Goes read left ls₀ s at p (and_then part (drop p s) f) (or_stop part (drop p s) stop k)) (answer : Result ℕ Refusal) (out : List ℤ) (l : Left p part answer out) where
+    goes_on : (next : ℕ) → answer ≡ Ok next → Goes read left ls₀ s at next (f out (drop next s)) (k out (drop next s))
     goes_on next a =
         let e = ended p part next out (rw a at l) in
         record {
@@ -177,7 +179,7 @@ module _ {read : List ℤ → List Bool → Got (List ℤ)} {left : List ℤ →
           keeps = g.keeps ∙ ap (λ (b : Got (List ℤ)). or_stop b (drop p s) stop k) e.is ∙ ap (k out) (drop-drop e.taken p s ∙ ap (λ (n : ℕ). drop n s) (sym e.moved));
         }
 
-    goes-stop : (r : Refusal) → answer ≡ Refused r → out ≡ stop → Leaves read left ls₀ s at (Refused r) out
+    goes-stop : (r : Refusal) → answer ≡ Err r → out ≡ stop → Leaves read left ls₀ s at (Err r) out
     goes-stop r a o =
         let e = refused-by p part r out (rw a at l) in
         record {
@@ -186,17 +188,17 @@ module _ {read : List ℤ → List Bool → Got (List ℤ)} {left : List ℤ →
         }
 
   -- the last part
-  pub goes_last : (p : ℕ) (part : Got (List ℤ)) (stop : List ℤ) (answer : ListAnswer) (out : List ℤ) → Goes read left ls₀ s at p part stop → answer ≡ list_answer p part → out ≡ stop → Leaves read left ls₀ s at answer out
+  pub goes_last : (p : ℕ) (part : Got (List ℤ)) (stop : List ℤ) (answer : Result ℕ Refusal) (out : List ℤ) → Goes read left ls₀ s at p part stop → answer ≡ reached p part → out ≡ stop → Leaves read left ls₀ s at answer out
   goes_last p part stop answer out g a o = record { answers = a ∙ rest-answer (read ls₀ (drop at s)) at p part g.goes; leaves = o ∙ sym g.keeps }
 
   -- ---- lists side by side, of which the i-th is next
   module _ (book : ResidualBook) (start place count i p : ℕ) (ls : List ℤ)
       (g : Goes read left ls₀ s at p (read_side book start (count - i) (place + positions book * i) ls (drop p s)) (left_side book start (count - i) (place + positions book * i) ls (drop p s))) where
-    pub side-ends : count ≤ i → Leaves read left ls₀ s at (End p) ls
+    pub side-ends : count ≤ i → Leaves read left ls₀ s at (Ok p) ls
     unfolding read_side left_side
     side-ends h =
         let z : count - i ≡ 0 = omega arith in
-        goes_last p (got ls 0) ls (End p) ls (rw z at g) (ap End (sym (add-zero p))) refl
+        goes_last p (got ls 0) ls (Ok p) ls (rw z at g) (ap Ok (sym (add-zero p))) refl
 
     module _ (h : i < count) where
       -- its place, what is read there, and the lists behind it
@@ -219,11 +221,11 @@ module _ {read : List ℤ → List Bool → Got (List ℤ)} {left : List ℤ →
           let on : place + positions book * i + positions book ≡ place + positions book * (i + 1) = omega arith in
           goes-is (rw on (then-mapped (sets ls here) list (drop p s) read_behind)) (rw on (stop-stored ls here (positions book) list (drop p s) left_behind)) (rw n at g)
 
-      module _ (answer : ListAnswer) (out : List ℤ) (d : Decoded p (positions book) list ls here answer out) where
-        pub side-on : (next : ℕ) → answer ≡ End next → Goes read left ls₀ s at next (read_behind out (drop next s)) (left_behind out (drop next s))
+      module _ (answer : Result ℕ Refusal) (out : List ℤ) (d : Decoded p (positions book) list ls here answer out) where
+        pub side-on : (next : ℕ) → answer ≡ Ok next → Goes read left ls₀ s at next (read_behind out (drop next s)) (left_behind out (drop next s))
         side-on = goes_on p (map_got (sets ls here) list) (left_in ls here (positions book) list) read_behind left_behind next-list answer out (stored p (positions book) list ls here answer out d)
 
-        pub side-stops : (r : Refusal) → answer ≡ Refused r → Leaves read left ls₀ s at (Refused r) out
+        pub side-stops : (r : Refusal) → answer ≡ Err r → Leaves read left ls₀ s at (Err r) out
         side-stops r a = goes-stop p (map_got (sets ls here) list) (left_in ls here (positions book) list) read_behind left_behind next-list answer out (stored p (positions book) list ls here answer out d) r a d.leaves
 
         -- it is the last
@@ -241,41 +243,41 @@ module _ {read : List ℤ → List Bool → Got (List ℤ)} {left : List ℤ →
             kept (got xs n) = refl
             kept (refused r) = refl
 
-            same : (b : Got (List ℤ)) → list_answer p b ≡ list_answer p (map_got (sets ls here) b)
+            same : (b : Got (List ℤ)) → reached p b ≡ reached p (map_got (sets ls here) b)
             same (got xs n) = refl
             same (refused r) = refl
 
   -- ---- n lists, then m, of the 26
   module _ (pattern n m i p : ℕ) (ls : List ℤ) (g : Goes read left ls₀ s at p (read_items (n + m) i pattern ls (drop p s)) (left_items (n + m) i pattern ls (drop p s)))
-      (answer : ListAnswer) (out : List ℤ) (l : Leaves (read_items n i pattern) (left_items n i pattern) ls s p answer out) where
+      (answer : Result ℕ Refusal) (out : List ℤ) (l : Leaves (read_items n i pattern) (left_items n i pattern) ls s p answer out) where
     parts : Goes read left ls₀ s at p (and_then (read_items n i pattern ls (drop p s)) (drop p s) (read_items m (i + n) pattern)) (or_stop (read_items n i pattern ls (drop p s)) (drop p s) (left_items n i pattern ls (drop p s)) (left_items m (i + n) pattern))
     unfolding read_items
     parts = goes-is (read-parts read_item pattern n m i ls (drop p s)) (left-parts pattern n m i ls (drop p s)) g
 
-    pub items-on : (next : ℕ) → answer ≡ End next → Goes read left ls₀ s at next (read_items m (i + n) pattern out (drop next s)) (left_items m (i + n) pattern out (drop next s))
+    pub items-on : (next : ℕ) → answer ≡ Ok next → Goes read left ls₀ s at next (read_items m (i + n) pattern out (drop next s)) (left_items m (i + n) pattern out (drop next s))
     items-on = goes_on p (read_items n i pattern ls (drop p s)) (left_items n i pattern ls (drop p s)) (read_items m (i + n) pattern) (left_items m (i + n) pattern) parts answer out (items_left n i pattern ls s p answer out l)
 
-    pub items-stop : (r : Refusal) → answer ≡ Refused r → Leaves read left ls₀ s at (Refused r) out
+    pub items-stop : (r : Refusal) → answer ≡ Err r → Leaves read left ls₀ s at (Err r) out
     items-stop r a = goes-stop p (read_items n i pattern ls (drop p s)) (left_items n i pattern ls (drop p s)) (read_items m (i + n) pattern) (left_items m (i + n) pattern) parts answer out (items_left n i pattern ls s p answer out l) r a l.leaves
 
   -- quadrant q, then what is behind it
   module _ (pattern q p : ℕ) (ls : List ℤ) (h : q < 4) (g : Goes read left ls₀ s at p (read_items (26 - 4 * q) (4 * q) pattern ls (drop p s)) (left_items (26 - 4 * q) (4 * q) pattern ls (drop p s)))
-      (answer : ListAnswer) (out : List ℤ) (l : Leaves (read_items 4 (4 * q) pattern) (left_items 4 (4 * q) pattern) ls s p answer out) where
+      (answer : Result ℕ Refusal) (out : List ℤ) (l : Leaves (read_items 4 (4 * q) pattern) (left_items 4 (4 * q) pattern) ls s p answer out) where
     quadrant : Goes read left ls₀ s at p (read_items (4 + (26 - 4 * (q + 1))) (4 * q) pattern ls (drop p s)) (left_items (4 + (26 - 4 * (q + 1))) (4 * q) pattern ls (drop p s))
     quadrant = let n : 26 - 4 * q ≡ 4 + (26 - 4 * (q + 1)) = omega arith in rw n at g
 
-    pub quadrant-on : (next : ℕ) → answer ≡ End next → Goes read left ls₀ s at next (read_items (26 - 4 * (q + 1)) (4 * (q + 1)) pattern out (drop next s)) (left_items (26 - 4 * (q + 1)) (4 * (q + 1)) pattern out (drop next s))
+    pub quadrant-on : (next : ℕ) → answer ≡ Ok next → Goes read left ls₀ s at next (read_items (26 - 4 * (q + 1)) (4 * (q + 1)) pattern out (drop next s)) (left_items (26 - 4 * (q + 1)) (4 * (q + 1)) pattern out (drop next s))
     quadrant-on next a =
         let on : 4 * q + 4 ≡ 4 * (q + 1) = omega arith in
         rw on at (items-on pattern 4 (26 - 4 * (q + 1)) (4 * q) p ls quadrant answer out l next a)
 
-    pub quadrant-stops : (r : Refusal) → answer ≡ Refused r → Leaves read left ls₀ s at (Refused r) out
+    pub quadrant-stops : (r : Refusal) → answer ≡ Err r → Leaves read left ls₀ s at (Err r) out
     quadrant-stops = items-stop pattern 4 (26 - 4 * (q + 1)) (4 * q) p ls quadrant answer out l
 
 -- no chroma list is coded
-pub no-chroma : (pattern : ℕ) → class_of pattern ≡ 0 → (ls : List ℤ) (s : List Bool) (at : ℕ) → Leaves (read_items 10 16 pattern) (left_items 10 16 pattern) ls s at (End at) ls
+pub no-chroma : (pattern : ℕ) → class_of pattern ≡ 0 → (ls : List ℤ) (s : List Bool) (at : ℕ) → Leaves (read_items 10 16 pattern) (left_items 10 16 pattern) ls s at (Ok at) ls
 no-chroma pattern e ls s at =
     let n = no-class pattern e in
     let dc = side-passed dc-side pattern ls s at n.0 in
     let ac = side-passed ac-side pattern ls s at n.1 in
-    goes_last at _ _ (End at) ls (items-on pattern 2 8 16 at ls (goes-all (read_items 10 16 pattern) (left_items 10 16 pattern) ls s at) (End at) ls dc at refl) ac.answers ac.leaves
+    goes_last at _ _ (Ok at) ls (items-on pattern 2 8 16 at ls (goes-all (read_items 10 16 pattern) (left_items 10 16 pattern) ls s at) (Ok at) ls dc at refl) ac.answers ac.leaves

@@ -14,7 +14,6 @@ pub mod Unique
 pub mod Blocks
 pub mod Reading
 pub mod Ranges
-pub mod Answers
 pub mod Examples
 pub mod ItemAnswers
 pub mod ItemFormats

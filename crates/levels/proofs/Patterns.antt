@@ -13,15 +13,14 @@ use Rattle.refusal.specs.declared.Refusal.{Refusal}
 use Rattle.refusal.specs.declared.Refusal.TheVariants.{InvalidFrameCode}
 use Rattle.refusal.proofs.Formats.{renamed}
 use Rattle.bits.specs.Code.{code}
-use Rattle.bits.specs.InnerCode.{code_answer}
-use Rattle.bits.specs.declared.svq3.CodeAnswer.TheVariants as read
 use Rattle.bits.proofs.Unique.{code-format}
-use Rattle.bits.proofs.Answers.{Answered, code-answered, code-refused}
+use Rattle.refusal.specs.Answered.{answered}
+use Rattle.refusal.proofs.Answered.{Answered, answered-got, answered-refused}
 use Rattle.levels.specs.Lists.{place_of}
 use Rattle.levels.specs.Pattern.{patterns, pattern_code, pattern, pattern_bits, PatternRange}
-use Rattle.levels.specs.InnerPattern.{pattern_entry, pattern_answer}
-use Rattle.levels.specs.declared.svq3_cbp.CbpEntry.TheVariants.{Entry, Missing}
-use Rattle.levels.specs.declared.svq3_cbp.CbpAnswer.TheVariants.{Pattern, Refused}
+use Rattle.levels.specs.InnerPattern.{pattern_entry}
+use Rattle.std.specs.Prelude.{Some, None, Ok, Err}
+use Rattle.std.specs.Option.{ok_or}
 use Rattle.levels.proofs.ShortTable.{both_left, both_right, at}
 use Rattle.levels.proofs.Kept.{kept}
 
@@ -57,31 +56,31 @@ pattern-format =
     (λ k h. (code-back k (ltb-true k 48 h.1)).0)
 
 -- ---- what the functions answer
-pub entry-is : (k : ℕ) → k < 48 → Entry (get_or patterns k 0) ≡ pattern_entry k
+pub entry-is : (k : ℕ) → k < 48 → Some (get_or patterns k 0) ≡ pattern_entry k
 unfolding pattern_entry
 entry-is k h = rw (lt-ltb k 48 h)
 
-pub missing-is : (k : ℕ) → (k < 48 → ⊥) → Missing ≡ pattern_entry k
+pub missing-is : (k : ℕ) → (k < 48 → ⊥) → None ≡ pattern_entry k
 unfolding pattern_entry
 missing-is k h = rw (le-ltb k 48 (omega arith))
 
 module _ (start : ℕ) (s : List Bool) where
-  pub pattern-entry : (k q v : ℕ) → read.Code k q ≡ code_answer start (code s) → Entry v ≡ pattern_entry k → Pattern v q ≡ pattern_answer start (pattern s)
+  pub pattern-entry : (k q v : ℕ) → Ok (k, q) ≡ answered start (code s) → Ok v ≡ ok_or (pattern_entry k) (InvalidFrameCode k) → Ok (v, q) ≡ answered start (pattern s)
   unfolding pattern pattern_entry
-  pattern-entry k q v e h = go (code-answered start (code s) k q e) (ltb k 48) refl h
+  pattern-entry k q v e h = go (answered-got start (code s) k q e) (ltb k 48) refl h
     where
-      go : Answered start (code s) k q → (t : Bool) → ltb k 48 ≡ t → Entry v ≡ cond t (Entry (get_or patterns k 0)) Missing → Pattern v q ≡ pattern_answer start (pattern s)
+      go : Answered start (code s) k q → (t : Bool) → ltb k 48 ≡ t → Ok v ≡ ok_or (cond t (Some (get_or patterns k 0)) None) (InvalidFrameCode k) → Ok (v, q) ≡ answered start (pattern s)
       go a true b h = let i : v ≡ get_or patterns k 0 = cc in rw (a.is, b, a.moved, i)
       go a false b h = absurd (let z : ◌≡◌ {A = ℕ} 0 1 = cc in omega arith)
 
-  pub pattern-missing : (k q : ℕ) → read.Code k q ≡ code_answer start (code s) → Missing ≡ pattern_entry k → Refused (InvalidFrameCode k) ≡ pattern_answer start (pattern s)
+  pub pattern-missing : (k q : ℕ) (r : Refusal) → Ok (k, q) ≡ answered start (code s) → Err r ≡ ok_or (pattern_entry k) (InvalidFrameCode k) → Err r ≡ answered start (pattern s)
   unfolding pattern pattern_entry
-  pattern-missing k q e h = go (code-answered start (code s) k q e) (ltb k 48) refl h
+  pattern-missing k q r e h = go (answered-got start (code s) k q e) (ltb k 48) refl h
     where
-      go : Answered start (code s) k q → (t : Bool) → ltb k 48 ≡ t → Missing ≡ cond t (Entry (get_or patterns k 0)) Missing → Refused (InvalidFrameCode k) ≡ pattern_answer start (pattern s)
+      go : Answered start (code s) k q → (t : Bool) → ltb k 48 ≡ t → Err r ≡ ok_or (cond t (Some (get_or patterns k 0)) None) (InvalidFrameCode k) → Err r ≡ answered start (pattern s)
       go a true b h = absurd (let z : ◌≡◌ {A = ℕ} 0 1 = cc in omega arith)
-      go a false b h = rw (a.is, b)
+      go a false b h = let i : r ≡ InvalidFrameCode k = cc in rw (a.is, b, i)
 
-  pub pattern-refused : (r : Refusal) → read.Refused r ≡ code_answer start (code s) → Refused r ≡ pattern_answer start (pattern s)
+  pub pattern-refused : (r : Refusal) → Err r ≡ answered start (code s) → Err r ≡ answered start (pattern s)
   unfolding pattern
-  pattern-refused r e = rw (code-refused start (code s) r e)
+  pattern-refused r e = rw (answered-refused start (code s) r e)

@@ -18,8 +18,8 @@ use Rattle.levels.specs.Book.{positions, level, run, resolve, code_of_level}
 use Rattle.levels.specs.Scan.{scan, raster, unraster}
 use Rattle.levels.specs.Levels.{zeros, level_run, standing, levels_from, levels, is_zero, LevelsCoded, block}
 use Rattle.levels.specs.declared.svq3_coeff.ResidualBook.{ResidualBook}
-use Rattle.levels.specs.declared.svq3_coeff.LevelRun.{LevelRun}
-use Rattle.levels.specs.declared.svq3_coeff.LevelRun.TheVariants.{End, Pair}
+use Rattle.levels.specs.Book.{LevelRun}
+use Rattle.std.specs.Prelude.{Some, None}
 use Rattle.levels.proofs.Books.{most, level-most, resolve-code}
 use Rattle.levels.proofs.Rasters.{raster-at, raster-unraster, length-unraster}
 use Rattle.levels.proofs.Steps.{level-run-format}
@@ -27,22 +27,22 @@ use Rattle.levels.proofs.Blocks.{block-format}
 
 -- ---- levels
 -- the level that a code says is the book's level of that code
-same-level : (book : ResidualBook) (l : ℤ) (r k : ℕ) → 0 < k → resolve book k ≡ Pair l r → level book k ≡ l
+same-level : (book : ResidualBook) (l : ℤ) (r k : ℕ) → 0 < k → resolve book k ≡ Some (l, r) → level book k ≡ l
 unfolding resolve
 same-level book l r k h e = go (eqb k 0) refl e
   where
-    go : (t : Bool) → eqb k 0 ≡ t → cond t End (Pair (level book k) (run book k)) ≡ Pair l r → level book k ≡ l
+    go : (t : Bool) → eqb k 0 ≡ t → cond {A = LevelRun} t None (Some (level book k, run book k)) ≡ Some (l, r) → level book k ≡ l
     go true z e = absurd (omega (arith, eqb-true k 0 z))
-    go false z e = cc
+    go false z e = let p : (level book k, run book k) ≡ (l, r) = cc in ap (λ (q : ℤ × ℕ). q.0) p
 
-end-no-pair : (l : ℤ) (r : ℕ) → End ≡ Pair l r → ⊥
+end-no-pair : (l : ℤ) (r : ℕ) → ◌≡◌ {A = LevelRun} None (Some (l, r)) → ⊥
 end-no-pair l r e = let z : ◌≡◌ {A = ℕ} 0 1 = cc in omega arith
 
 coded-level-most : (book : ResidualBook) (l : ℤ) (r : ℕ) → 0 < nat_abs l → r < positions book → CodeRange (code_of_level book l r) → nat_abs l ≤ most book
 unfolding resolve
 coded-level-most book l r s h k = go (code_of_level book l r) k (resolve-code book l r s h)
   where
-    go : (c : ℕ) → CodeRange c → resolve book c ≡ Pair l r → nat_abs l ≤ most book
+    go : (c : ℕ) → CodeRange c → resolve book c ≡ Some (l, r) → nat_abs l ≤ most book
     go zero b e = absurd (end-no-pair l r e)
     go (suc c) b e = subst (λ (z : ℤ). nat_abs z ≤ most book) (same-level book l r (suc c) (omega arith) e) (level-most book (suc c) b)
 
@@ -119,10 +119,10 @@ module _ (book : ResidualBook) where
 
       go : (a : Got LevelRun) → level_run book s ≡ a → and_then a s (λ found rest. standing (positions book) position found (λ p. next p rest)) ≡ refused x → Refuses book x
       go (refused r) f e = code-refuses 31 1 s x (map-refused (resolve book) (code_from 31 1 s) x (f ∙ ap refused (refused-same e)))
-      go (got End m) f e = never-refused e
-      go (got (Pair l r) m) f e =
-          placed l r m ((level-run-format book).came s (Pair l r) m f).in_range.1 (ltb (position + r) (positions book)) refl
-          (after-refused m (standing (positions book) position (Pair l r) (λ p. next p (drop m s))) x e)
+      go (got None m) f e = never-refused e
+      go (got (Some (l, r)) m) f e =
+          placed l r m ((level-run-format book).came s (Some (l, r)) m f).in_range.1 (ltb (position + r) (positions book)) refl
+          (after-refused m (standing (positions book) position (Some (l, r)) (λ p. next p (drop m s))) x e)
 
   refuses-from : (turns position : ℕ) (s : List Bool) (x : Refusal) → position ≤ positions book → positions book ≤ position + turns → levels_from book turns position s ≡ refused x → Refuses book x
   unfolding levels_from

@@ -1,6 +1,6 @@
 -- The state of the loop that reads a list: what is still to be read says what the whole list says. One law for each way out of a turn.
 -- Assumes nothing.
-use mathlib.Core.Path.{◌≡◌, refl, sym, ap, ap₂, ◌∙◌}
+use mathlib.Core.Path.{◌≡◌, refl, sym, ap, ◌∙◌}
 use mathlib.Core.Bool.{Bool}
 use mathlib.Core.List.{List, [], ◌∷◌, ◌++◌, append_assoc}
 use Prim.Native.Nat.{ℕ, zero, suc, ◌+◌, ◌-◌, ◌≤◌, ◌<◌}
@@ -12,40 +12,24 @@ use lib.Seq.{append_snoc, drop-drop, set_at, sets, length-sets}
 use Rattle.refusal.specs.Got.{Got, got, refused, after, map_got}
 use Rattle.refusal.specs.declared.Refusal.{Refusal}
 use Rattle.refusal.specs.declared.Refusal.TheVariants.{LevelPosition}
-use Rattle.bits.proofs.Answers.{Answered}
+use Rattle.refusal.proofs.Answered.{Answered, answered-got, answered-refused}
 use Rattle.levels.specs.Book.{positions}
 use Rattle.levels.specs.Lists.{place_of, list_of}
 use Rattle.levels.specs.Scan.{scan, raster}
 use Rattle.levels.specs.Levels.{zeros, level_run, levels_from, levels, block}
-use Rattle.levels.specs.InnerLevels.{step_answer, Decoded}
+use Rattle.refusal.specs.Answered.{answered}
+use Rattle.levels.specs.InnerLevels.{Decoded}
 use Rattle.levels.specs.declared.svq3_coeff.ResidualBook.{ResidualBook}
 use Rattle.levels.specs.declared.svq3_coeff.ResidualBook.TheVariants.{NormalScan, ChromaDc}
-use Rattle.levels.specs.declared.svq3_coeff.LevelRun.{LevelRun}
-use Rattle.levels.specs.declared.svq3_coeff.LevelRun.TheVariants.{Pair}
-use Rattle.levels.specs.declared.svq3_coeff.LevelRun.TheVariants as said
-use Rattle.levels.specs.declared.svq3_coeff.Step.TheVariants as step
-use Rattle.levels.specs.declared.svq3_coeff.ListAnswer.TheVariants.{End, Refused}
+use Rattle.std.specs.Prelude.{Some}
+use Rattle.std.specs.Prelude.{Some, None}
+use Rattle.std.specs.Prelude.{Ok, Err}
+use Rattle.std.specs.Prelude.{Ok, Err}
 use Rattle.levels.proofs.Gots.{after-zero, after-after, map-after, map-map}
 use Rattle.levels.proofs.Froms.{from-refused, from_end, from_past, from-level}
 use Rattle.levels.proofs.Rasters.{length-raster, position-back, raster-set}
 use Rattle.levels.proofs.Stores.{set-within, sets_over}
 use Rattle.levels.proofs.Steps.{level-run-format}
-
--- ---- what the answer of a step says
-level-told : (p : ℕ) (g : Got LevelRun) (l : ℤ) (r q : ℕ) → step.Level l r q ≡ step_answer p g → Answered p g (Pair l r) q
-level-told p (got (Pair x y) n) l r q e = record { taken = n; is = ap₂ (λ a b. got (Pair a b) n) (cc) (cc); moved = cc }
-level-told p (got said.End n) l r q e = absurd (let z : ◌≡◌ {A = ℕ} 0 1 = cc in omega arith)
-level-told p (refused x) l r q e = absurd (let z : ◌≡◌ {A = ℕ} 0 1 = cc in omega arith)
-
-end-told : (p : ℕ) (g : Got LevelRun) (q : ℕ) → step.End q ≡ step_answer p g → Answered p g said.End q
-end-told p (got said.End n) q e = record { taken = n; is = refl; moved = cc }
-end-told p (got (Pair x y) n) q e = absurd (let z : ◌≡◌ {A = ℕ} 0 1 = cc in omega arith)
-end-told p (refused x) q e = absurd (let z : ◌≡◌ {A = ℕ} 0 1 = cc in omega arith)
-
-refused-told : (p : ℕ) (g : Got LevelRun) (x : Refusal) → step.Refused x ≡ step_answer p g → g ≡ refused x
-refused-told p (refused y) x e = ap refused (cc)
-refused-told p (got said.End n) x e = absurd (let z : ◌≡◌ {A = ℕ} 0 1 = cc in omega arith)
-refused-told p (got (Pair a b) n) x e = absurd (let z : ◌≡◌ {A = ℕ} 0 1 = cc in omega arith)
 
 -- ---- the state
 -- the levels by raster place, where `done` is what was read of them by position, with 0 behind
@@ -106,17 +90,17 @@ module _ {book : ResidualBook} {start at : ℕ} {s : List Bool} {out₀ : List �
   ends-refused : (x : Refusal) → level_run book (drop p s) ≡ refused x → block book start (drop at s) ≡ refused x
   ends-refused x e = rw (R.rest, from-refused book position (drop p s) R.turns x e)
 
-  ends-past : (n : ℕ) (l : ℤ) (r : ℕ) → level_run book (drop p s) ≡ got (Pair l r) n → positions book ≤ position + r → block book start (drop at s) ≡ refused (LevelPosition (position + r))
+  ends-past : (n : ℕ) (l : ℤ) (r : ℕ) → level_run book (drop p s) ≡ got (Some (l, r)) n → positions book ≤ position + r → block book start (drop at s) ≡ refused (LevelPosition (position + r))
   ends-past n l r e h = rw (R.rest, from_past book position (drop p s) R.turns n l r e h)
 
-  ends : (n : ℕ) → level_run book (drop p s) ≡ got said.End n → block book start (drop at s) ≡ got (held book R.done position) (R.taken + n)
+  ends : (n : ℕ) → level_run book (drop p s) ≡ got None n → block book start (drop at s) ≡ got (held book R.done position) (R.taken + n)
   ends n e = rw (R.rest, from_end book position (drop p s) R.turns n e, add-zero n)
 
   -- the run of what was read is below the positions, so that their sum fits
-  run_fits : (n : ℕ) (l : ℤ) (r : ℕ) → level_run book (drop p s) ≡ got (Pair l r) n → r < positions book
-  run_fits n l r e = ((level-run-format book).came (drop p s) (Pair l r) n e).in_range.1
+  run_fits : (n : ℕ) (l : ℤ) (r : ℕ) → level_run book (drop p s) ≡ got (Some (l, r)) n → r < positions book
+  run_fits n l r e = ((level-run-format book).came (drop p s) (Some (l, r)) n e).in_range.1
 
-  module _ (n : ℕ) (l : ℤ) (r : ℕ) (e : level_run book (drop p s) ≡ got (Pair l r) n) (h : position + r < positions book) where
+  module _ (n : ℕ) (l : ℤ) (r : ℕ) (e : level_run book (drop p s) ≡ got (Some (l, r)) n) (h : position + r < positions book) where
     more : List ℤ
     more = R.done ++ zeros r ++ l ∷ []
 
@@ -191,27 +175,27 @@ module _ {book : ResidualBook} {start at : ℕ} {s : List Bool} {out₀ : List �
         e ∙ ap (λ (xs : List ℤ). sets xs base (zeros (positions book))) left_over ∙
         sets_over entry base (held book R.done position) (zeros (positions book)) (length-raster book (R.done ++ zeros (positions book - position)) ∙ sym (length-replicate (positions book) (pos 0)))
 
-    pub refused-answer : (after : List ℤ) (x : Refusal) → after ≡ sets out base (zeros (positions book)) → step.Refused x ≡ step_answer p (level_run book (drop p s)) → Decoded at (positions book) (block book start (drop at s)) entry base (Refused x) after
-    refused-answer after x e t = rw (ends-refused R x (refused-told p (level_run book (drop p s)) x t)) (record { answers = refl; leaves = cleared-again after e })
+    pub refused-answer : (after : List ℤ) (x : Refusal) → after ≡ sets out base (zeros (positions book)) → Err x ≡ answered p (level_run book (drop p s)) → Decoded at (positions book) (block book start (drop at s)) entry base (Err x) after
+    refused-answer after x e t = rw (ends-refused R x (answered-refused p (level_run book (drop p s)) x t)) (record { answers = refl; leaves = cleared-again after e })
 
-    pub past-answer : (after : List ℤ) (l : ℤ) (r q : ℕ) → after ≡ sets out base (zeros (positions book)) → step.Level l r q ≡ step_answer p (level_run book (drop p s)) → positions book ≤ position + r
-        → Decoded at (positions book) (block book start (drop at s)) entry base (Refused (LevelPosition (position + r))) after
+    pub past-answer : (after : List ℤ) (l : ℤ) (r q : ℕ) → after ≡ sets out base (zeros (positions book)) → Ok (Some (l, r), q) ≡ answered p (level_run book (drop p s)) → positions book ≤ position + r
+        → Decoded at (positions book) (block book start (drop at s)) entry base (Err (LevelPosition (position + r))) after
     past-answer after l r q e t h =
-        let a = level-told p (level_run book (drop p s)) l r q t in
+        let a = answered-got p (level_run book (drop p s)) (Some (l, r)) q t in
         rw (ends-past R a.taken l r a.is h) (record { answers = refl; leaves = cleared-again after e })
 
-    pub end-answer : (q : ℕ) → step.End q ≡ step_answer p (level_run book (drop p s)) → Decoded at (positions book) (block book start (drop at s)) entry base (End q) out
-    end-answer q t = go (end-told p (level_run book (drop p s)) q t)
+    pub end-answer : (q : ℕ) → Ok (None, q) ≡ answered p (level_run book (drop p s)) → Decoded at (positions book) (block book start (drop at s)) entry base (Ok q) out
+    end-answer q t = go (answered-got p (level_run book (drop p s)) None q t)
       where
-        go : Answered p (level_run book (drop p s)) said.End q → Decoded at (positions book) (block book start (drop at s)) entry base (End q) out
-        go a = rw (ends R a.taken a.is) (record { answers = ap End (omega (arith, a.moved, R.moved)); leaves = left_over })
+        go : Answered p (level_run book (drop p s)) None q → Decoded at (positions book) (block book start (drop at s)) entry base (Ok q) out
+        go a = rw (ends R a.taken a.is) (record { answers = ap Ok (omega (arith, a.moved, R.moved)); leaves = left_over })
 
-  module _ (l : ℤ) (r q : ℕ) (t : step.Level l r q ≡ step_answer p (level_run book (drop p s))) where
+  module _ (l : ℤ) (r q : ℕ) (t : Ok (Some (l, r), q) ≡ answered p (level_run book (drop p s))) where
     pub run-told : r < positions book
-    run-told = let a = level-told p (level_run book (drop p s)) l r q t in run_fits R a.taken l r a.is
+    run-told = let a = answered-got p (level_run book (drop p s)) (Some (l, r)) q t in run_fits R a.taken l r a.is
 
     pub next-reading : (place : ℕ) (x : ℤ) → position + r < positions book → place ≡ get_or (scan book) (position + r) 0 → x ≡ l → Reading book start at s out₀ base (position + r + 1) q (set out (base + place) x)
-    next-reading place x h e f = go (level-told p (level_run book (drop p s)) l r q t)
+    next-reading place x h e f = go (answered-got p (level_run book (drop p s)) (Some (l, r)) q t)
       where
-        go : Answered p (level_run book (drop p s)) (Pair l r) q → Reading book start at s out₀ base (position + r + 1) q (set out (base + place) x)
+        go : Answered p (level_run book (drop p s)) (Some (l, r)) q → Reading book start at s out₀ base (position + r + 1) q (set out (base + place) x)
         go a = rw (e, f, a.moved) (goes_on R a.taken l r a.is h)

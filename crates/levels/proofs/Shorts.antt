@@ -1,6 +1,6 @@
 -- What is taken from a window is what the code at the place says: each entry of the look-ups is tested.
 -- Assumes nothing.
-use mathlib.Core.Path.{◌≡◌, refl, sym, ap, subst, ◌∙◌}
+use mathlib.Core.Path.{◌≡◌, refl, sym, ap, ap₂, subst, ◌∙◌}
 use mathlib.Core.Bool.{Bool, true, false, cond, ◌&&◌, ◌||◌}
 use mathlib.Core.List.{List, [], ◌∷◌, ◌++◌}
 use Prim.Native.Nat.{ℕ, suc, ◌+◌, ◌-◌, ◌*◌, ◌/◌, ◌^◌, ◌≤◌, ◌<◌}
@@ -27,12 +27,14 @@ use Rattle.levels.specs.Book.{magnitudes, runs, positions, least, chroma_base, r
 use Rattle.levels.specs.InnerBook.{code_of, InBook}
 use Rattle.levels.specs.InnerShort.{entries, entry_size, entry_run, entry_level}
 use Rattle.levels.specs.Levels.{level_run}
-use Rattle.levels.specs.InnerLevels.{step_answer, Stepped}
+use Rattle.refusal.specs.Answered.{answered}
+use Rattle.levels.specs.InnerLevels.{Stepped}
+use Rattle.levels.specs.declared.svq3_coeff.Taken.{Taken}
 use Rattle.levels.specs.declared.svq3_coeff.ResidualBook.{ResidualBook}
 use Rattle.levels.specs.declared.svq3_coeff.ResidualBook.TheVariants.{NormalScan, ChromaDc}
-use Rattle.levels.specs.declared.svq3_coeff.LevelRun.{LevelRun}
-use Rattle.levels.specs.declared.svq3_coeff.LevelRun.TheVariants as said
-use Rattle.levels.specs.declared.svq3_coeff.Step.TheVariants.{Level, End, Refused}
+use Rattle.levels.specs.Book.{LevelRun}
+use Rattle.std.specs.Prelude.{Some, None}
+use Rattle.std.specs.Prelude.{Ok, Err}
 use Rattle.levels.proofs.ShortTable.{both_left, both_right, every, at}
 use Rattle.levels.proofs.Steps.{level-run-format}
 
@@ -63,7 +65,7 @@ or-else false b t e = t
 -- ---- an entry: no code, or the first bits of the seven are the code of its level and run
 module _ (book : ResidualBook) (e : ℕ) where
   abbrev pair : LevelRun
-  pair = said.Pair (entry_level e) (entry_run e)
+  pair = Some (entry_level e, entry_run e)
 
   abbrev sized : Bool
   sized = leb 1 (entry_size e) && leb (entry_size e) 7
@@ -131,18 +133,23 @@ level-less q h = to_z-of_z (less-fits q h) ∙ ap (λ (z : ℤ). z -ℤ pos 4) (
 
 -- ---- steps
 module _ (book : ResidualBook) (bits : List Bool) (p : ℕ) where
-  pub level-stepped : (l : ℤ) (r q word known : ℕ) → Level l r q ≡ step_answer p (level_run book (drop p bits)) → Shows word known (drop q bits) → Stepped book bits p (Level l r q) word known
-  level-stepped l r q word known e shown = record { says = e; shows = λ x y z g. let t : q ≡ z = cc in subst (λ (n : ℕ). Shows word known (drop n bits)) t shown }
+  pub level-stepped : (taken : Taken) → Ok (taken.said, taken.next) ≡ answered p (level_run book (drop p bits)) → Shows taken.window.word taken.window.known (drop taken.next bits) → Stepped book bits p (Ok taken)
+  level-stepped taken e shown =
+      record { says = e; shows = λ t l r g f. let same : taken ≡ t = cc in subst (λ (x : Taken). Shows x.window.word x.window.known (drop x.next bits)) same shown }
 
-  pub end-stepped : (q word known : ℕ) → End q ≡ step_answer p (level_run book (drop p bits)) → Stepped book bits p (End q) word known
-  end-stepped q word known e = record { says = e; shows = λ x y z g. absurd (let n : ◌≡◌ {A = ℕ} 0 1 = cc in omega arith) }
+  pub end-stepped : (taken : Taken) → taken.said ≡ None → Ok (None, taken.next) ≡ answered p (level_run book (drop p bits)) → Stepped book bits p (Ok taken)
+  end-stepped taken n e =
+      record {
+        says = ap (λ (x : LevelRun). Ok (x, taken.next)) n ∙ e;
+        shows = λ t l r g f. absurd (let same : taken ≡ t = cc in let k : None ≡ Some (l, r) = sym n ∙ ap (λ (x : Taken). x.said) same ∙ f in let z : ◌≡◌ {A = ℕ} 0 1 = cc in omega arith);
+      }
 
-  pub refused-stepped : (r : Refusal) (word known : ℕ) → Refused r ≡ step_answer p (level_run book (drop p bits)) → Stepped book bits p (Refused r) word known
-  refused-stepped r word known e = record { says = e; shows = λ x y z g. absurd (let n : ◌≡◌ {A = ℕ} 0 1 = cc in omega arith) }
+  pub refused-stepped : (r : Refusal) → Err r ≡ answered p (level_run book (drop p bits)) → Stepped book bits p (Err r)
+  refused-stepped r e = record { says = e; shows = λ t l q g f. absurd (let z : ◌≡◌ {A = ℕ} 0 1 = cc in omega arith) }
 
   -- ---- a code that the window shows
   module _ (word known : ℕ) (shown : Shows word known (drop p bits)) where
-    pub one_found : 0 < known → 2 ^ 63 ≤ word → word < 2 ^ 64 → level_run book (drop p bits) ≡ got said.End 1
+    pub one_found : 0 < known → 2 ^ 63 ≤ word → word < 2 ^ 64 → level_run book (drop p bits) ≡ got None 1
     unfolding level_run code code_from resolve
     one_found h l u = let b = starts-one word known (drop p bits) h l u shown in ap (level_run book) b.1
 
@@ -156,12 +163,13 @@ module _ (book : ResidualBook) (bits : List Bool) (p : ℕ) where
       pub size-some : 0 < entry_size e
       size-some = found.some
 
-      pub level-found : level_run book (drop p bits) ≡ got (said.Pair (entry_level e) (entry_run e)) (entry_size e)
+      pub level-found : level_run book (drop p bits) ≡ got (Some (entry_level e, entry_run e)) (entry_size e)
       level-found = let b = starts-seven word known (entry_size e) (drop p bits) found.few fits shown in ap (level_run book) b.1 ∙ found.says b.0
 
-      pub entry-stepped : (z : ℤ) (after rest : ℕ) → z ≡ entry_level e → Shows after rest (drop (entry_size e) (drop p bits)) → Stepped book bits p (Level z (entry_run e) (p + entry_size e)) after rest
-      entry-stepped z after rest f behind =
-          level-stepped z (entry_run e) (p + entry_size e) after rest (ap (λ (x : ℤ). Level x (entry_run e) (p + entry_size e)) f ∙ ap (step_answer p) (sym level-found)) (subst (Shows after rest) (drop-drop (entry_size e) p bits) behind)
+      pub entry-stepped : (taken : Taken) (z : ℤ) → taken.said ≡ Some (z, entry_run e) → taken.next ≡ p + entry_size e → z ≡ entry_level e → Shows taken.window.word taken.window.known (drop (entry_size e) (drop p bits)) → Stepped book bits p (Ok taken)
+      entry-stepped taken z said next f behind =
+          let there : drop (entry_size e) (drop p bits) ≡ drop taken.next bits = drop-drop (entry_size e) p bits ∙ ap (λ (n : ℕ). drop n bits) (sym next) in
+          level-stepped taken (ap₂ (λ (x : LevelRun) (n : ℕ). Ok (x, n)) (said ∙ ap (λ (x : ℤ). Some (x, entry_run e)) f) next ∙ ap (answered p) (sym level-found)) (subst (Shows taken.window.word taken.window.known) there behind)
 
 -- a code's bits are there
 pub inside : (book : ResidualBook) (s : List ℕ) (p n : ℕ) (x : LevelRun) → level_run book (drop p (bit_list s)) ≡ got x n → 0 < n → p + n ≤ 8 * length s

@@ -21,8 +21,8 @@ use Rattle.levels.specs.Book.{positions, code_of_level}
 use Rattle.levels.specs.InnerBook.{code_of}
 use Rattle.levels.specs.Levels.{zeros, level_run, standing, levels_from, levels, is_zero, level_bits, LevelsCoded, LevelsRange}
 use Rattle.levels.specs.declared.svq3_coeff.ResidualBook.{ResidualBook}
-use Rattle.levels.specs.declared.svq3_coeff.LevelRun.{LevelRun}
-use Rattle.levels.specs.declared.svq3_coeff.LevelRun.TheVariants.{End, Pair}
+use Rattle.levels.specs.Book.{LevelRun}
+use Rattle.std.specs.Prelude.{Some, None}
 use Rattle.levels.proofs.Steps.{level-run-format}
 use Rattle.levels.proofs.Froms.{from_end, from-level}
 
@@ -76,7 +76,7 @@ module _ (book : ResidualBook) where
       let w = code_bits (code_of_level book l run) in
       let s = level_bits book 0 ls ++ rest in
       let a : (w ++ level_bits book 0 ls) ++ rest ≡ w ++ s = append_assoc w (level_bits book 0 ls) rest in
-      let f = from-level book position (w ++ s) turns (length w) l run ((level-run-format book).reads (Pair l run) s (some, omega arith, k)) (omega arith) in
+      let f = from-level book position (w ++ s) turns (length w) l run ((level-run-format book).reads (Some (l, run)) s (some, omega arith, k)) (omega arith) in
       let d : drop (length w) (w ++ s) ≡ s = drop_at w s (length w) refl in
       let n = next turns (position + run + 1) 0 rest (omega arith) (omega arith) c in
       rw (a, f, d, n, length-append w (level_bits book 0 ls))
@@ -96,7 +96,7 @@ module _ (book : ResidualBook) where
   reads-from : (ls : List ℤ) → Reads ls
   unfolding level_bits code_of
   reads-from [] turns position run rest e t c =
-      from_end book position (code_bits 0 ++ rest) turns (length (code_bits 0)) ((level-run-format book).reads End rest tt) ∙
+      from_end book position (code_bits 0 ++ rest) turns (length (code_bits 0)) ((level-run-format book).reads None rest tt) ∙
       ap₂ got (ap zeros {x = positions book - position} {y = run} (omega arith) ∙ sym (append-nil (zeros run))) (add-zero (length (code_bits 0)))
   reads-from (l ∷ ls) turns position run rest e t c = reads-cons l ls (reads-from ls) turns position run rest e t c
 
@@ -109,11 +109,11 @@ module _ (book : ResidualBook) where
   unfolding code_of
   came-next next more position s ls n b e = go (level_run book s) refl e
     where
-      behind : (l : ℤ) (r m : ℕ) → level_run book s ≡ got (Pair l r) m → position + r < positions book → (a : Got (List ℤ)) → next (position + r + 1) (drop m s) ≡ a
+      behind : (l : ℤ) (r m : ℕ) → level_run book s ≡ got (Some (l, r)) m → position + r < positions book → (a : Got (List ℤ)) → next (position + r + 1) (drop m s) ≡ a
           → after m (map_got (λ ls. zeros r ++ l ∷ ls) a) ≡ got ls n → Came (level_bits book 0) (LevelsRange book position) s ls n
       behind l r m h g (refused x) f e = never e
       behind l r m h g (got ms k) f e =
-          let c = (level-run-format book).came s (Pair l r) m h in
+          let c = (level-run-format book).came s (Some (l, r)) m h in
           let d = more (position + r + 1) (drop m s) ms k (omega arith) f in
           let w = code_bits (code_of_level book l r) in
           let v = level_bits book 0 ms in
@@ -129,7 +129,7 @@ module _ (book : ResidualBook) where
             taken = sym (got-count e) ∙ rw u (omega (arith, c.taken, d.taken, length-append w v));
           })
 
-      placed : (l : ℤ) (r m : ℕ) → level_run book s ≡ got (Pair l r) m → (t : Bool) → ltb (position + r) (positions book) ≡ t
+      placed : (l : ℤ) (r m : ℕ) → level_run book s ≡ got (Some (l, r)) m → (t : Bool) → ltb (position + r) (positions book) ≡ t
           → after m (cond t (map_got (λ ls. zeros r ++ l ∷ ls) (next (position + r + 1) (drop m s))) (refused (LevelPosition (position + r)))) ≡ got ls n
           → Came (level_bits book 0) (LevelsRange book position) s ls n
       placed l r m h true g e = behind l r m h (ltb-true (position + r) (positions book) g) (next (position + r + 1) (drop m s)) refl e
@@ -138,8 +138,8 @@ module _ (book : ResidualBook) where
       go : (a : Got LevelRun) → level_run book s ≡ a → and_then a s (λ found rest. standing (positions book) position found (λ p. next p rest)) ≡ got ls n
           → Came (level_bits book 0) (LevelsRange book position) s ls n
       go (refused x) h e = never e
-      go (got End m) h e =
-          let c = (level-run-format book).came s End m h in
+      go (got None m) h e =
+          let c = (level-run-format book).came s None m h in
           let k = positions book - position in
           let u = bits-zeros 0 k in
           subst (λ (xs : List ℤ). Came (level_bits book 0) (LevelsRange book position) s xs n) (got-value e)
@@ -148,7 +148,7 @@ module _ (book : ResidualBook) where
             starts = record { rest = c.starts.rest; is = rw u c.starts.is };
             taken = sym (got-count e) ∙ rw u (omega (arith, c.taken));
           })
-      go (got (Pair l r) m) h e = placed l r m h (ltb (position + r) (positions book)) refl e
+      go (got (Some (l, r)) m) h e = placed l r m h (ltb (position + r) (positions book)) refl e
 
   came_from : (turns : ℕ) → Written (levels_from book turns)
   unfolding levels_from

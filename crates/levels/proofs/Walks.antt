@@ -12,9 +12,11 @@ use lib.Seq.{sets, drop-drop}
 use Rattle.refusal.specs.Got.{Got, got, refused, after, and_then, map_got}
 use Rattle.refusal.specs.declared.Refusal.{Refusal}
 use Rattle.refusal.proofs.Formats.{got-value, never}
-use Rattle.levels.specs.InnerLevels.{list_answer, Decoded}
-use Rattle.levels.specs.declared.svq3_coeff.ListAnswer.{ListAnswer}
-use Rattle.levels.specs.declared.svq3_coeff.ListAnswer.TheVariants.{End, Refused}
+use Rattle.refusal.specs.Answered.{reached}
+use Rattle.levels.specs.InnerLevels.{Decoded}
+use Rattle.refusal.specs.declared.Refusal.{Refusal}
+use Rattle.std.specs.Prelude.{Result}
+use Rattle.std.specs.Prelude.{Ok, Err}
 use Rattle.levels.proofs.Gots.{after-zero, after-after}
 use Rattle.levels.specs.Items.{item_coded, item_place, read_lists}
 use Rattle.levels.specs.InnerItems.{Group}
@@ -23,7 +25,7 @@ use Rattle.levels.proofs.ItemAnswers.{ended, refused-by, left_end, left-refused}
 use Rattle.levels.proofs.Turns.{when_true, when_false}
 
 -- a list that was read and stored at a place
-pub stored : (at room : ℕ) (read : Got (List ℤ)) (out : List ℤ) (place : ℕ) (answer : ListAnswer) (left : List ℤ) → Decoded at room read out place answer left → Left at (map_got (sets out place) read) answer left
+pub stored : (at room : ℕ) (read : Got (List ℤ)) (out : List ℤ) (place : ℕ) (answer : Result ℕ Refusal) (left : List ℤ) → Decoded at room read out place answer left → Left at (map_got (sets out place) read) answer left
 stored at room (got xs n) out place answer left d = record { answers = d.answers; leaves = λ ls k e. d.leaves ∙ got-value e }
 stored at room (refused r) out place answer left d = record { answers = d.answers; leaves = λ ls k e. never e }
 
@@ -53,7 +55,7 @@ rest-is {at = at} {p = p} e g = record { is = g.is ∙ ap (after (p - at)) e; on
 
 -- a part, then what f reads behind it
 module _ {E : Type 0} {whole : Got (List ℤ)} {at p : ℕ} {part : Got (List ℤ)} (s : List E) (f : List ℤ → List E → Got (List ℤ)) (g : Rest whole at p (and_then part (drop p s) f)) where
-  pub rest-on : (answer : ListAnswer) (next : ℕ) (left : List ℤ) → answer ≡ End next → Left p part answer left → Rest whole at next (f left (drop next s))
+  pub rest-on : (answer : Result ℕ Refusal) (next : ℕ) (left : List ℤ) → answer ≡ Ok next → Left p part answer left → Rest whole at next (f left (drop next s))
   rest-on answer next left a l =
       let e = ended p part next left (rw a at l) in
       let far : p - at + e.taken ≡ next - at = omega (arith, e.moved, g.on) in
@@ -64,26 +66,26 @@ module _ {E : Type 0} {whole : Got (List ℤ)} {at p : ℕ} {part : Got (List �
         on = omega (arith, e.moved, g.on);
       }
 
-  pub rest-stops : (answer : ListAnswer) (r : Refusal) (left : List ℤ) → answer ≡ Refused r → Left p part answer left → Left at whole (Refused r) left
+  pub rest-stops : (answer : Result ℕ Refusal) (r : Refusal) (left : List ℤ) → answer ≡ Err r → Left p part answer left → Left at whole (Err r) left
   rest-stops answer r left a l =
       left-refused at whole r left (g.is ∙ ap (λ (a : Got (List ℤ)). after (p - at) (and_then a (drop p s) f)) (refused-by p part r left (rw a at l)))
 
 -- the last part
-pub rest-answer : (whole : Got (List ℤ)) (at p : ℕ) (part : Got (List ℤ)) → Rest whole at p part → list_answer p part ≡ list_answer at whole
+pub rest-answer : (whole : Got (List ℤ)) (at p : ℕ) (part : Got (List ℤ)) → Rest whole at p part → reached p part ≡ reached at whole
 rest-answer whole at p (got ls n) g =
     let far : p + n ≡ at + (p - at + n) = omega (arith, g.on) in
-    ap End far ∙ ap (list_answer at) (sym g.is)
-rest-answer whole at p (refused r) g = ap (list_answer at) (sym g.is)
+    ap Ok far ∙ ap (reached at) (sym g.is)
+rest-answer whole at p (refused r) g = ap (reached at) (sym g.is)
 
-rest-last : {whole : Got (List ℤ)} {at p : ℕ} (part : Got (List ℤ)) (answer : ListAnswer) (left : List ℤ) → Rest whole at p part → Left p part answer left → Left at whole answer left
+rest-last : {whole : Got (List ℤ)} {at p : ℕ} (part : Got (List ℤ)) (answer : Result ℕ Refusal) (left : List ℤ) → Rest whole at p part → Left p part answer left → Left at whole answer left
 rest-last {whole} {at} {p} (got ls n) answer left g l =
     record { answers = l.answers ∙ rest-answer whole at p (got ls n) g; leaves = λ xs k e. l.leaves ls n refl ∙ got-value (sym g.is ∙ e) }
 rest-last {whole} {at} {p} (refused r) answer left g l =
     record { answers = l.answers ∙ rest-answer whole at p (refused r) g; leaves = λ xs k e. never (sym g.is ∙ e) }
 
 -- nothing is left
-rest-none : {whole : Got (List ℤ)} {at p : ℕ} {ls : List ℤ} → Rest whole at p (got ls 0) → Left at whole (End p) ls
-rest-none {p = p} {ls = ls} g = rest-last (got ls 0) (End p) ls g (left_end p (got ls 0) p 0 ls refl (omega arith))
+rest-none : {whole : Got (List ℤ)} {at p : ℕ} {ls : List ℤ} → Rest whole at p (got ls 0) → Left at whole (Ok p) ls
+rest-none {p = p} {ls = ls} g = rest-last (got ls 0) (Ok p) ls g (left_end p (got ls 0) p 0 ls refl (omega arith))
 
 -- what is read goes on as h has it
 pub then-mapped : {E : Type 0} (h : List ℤ → List ℤ) (g : Got (List ℤ)) (s : List E) (f : List ℤ → List E → Got (List ℤ)) → and_then g s (λ found. f (h found)) ≡ and_then (map_got h g) s f
@@ -115,13 +117,13 @@ module _ {E : Type 0} (read : ℕ → List E → Got (List ℤ)) (pattern : ℕ)
         let e : 26 - i ≡ suc (26 - suc i) = omega arith in
         rest-is (ap (λ (n : ℕ). read_lists read n i pattern ls (drop p s)) e ∙ one-coded (26 - suc i) i ls (drop p s) t) g.rest
 
-    pub goes_on : (answer : ListAnswer) (next : ℕ) (left : List ℤ) → i < 26 → item_coded pattern i ≡ true → answer ≡ End next → Left p (map_got (sets ls (item_place i)) (read i (drop p s))) answer left
+    pub goes_on : (answer : Result ℕ Refusal) (next : ℕ) (left : List ℤ) → i < 26 → item_coded pattern i ≡ true → answer ≡ Ok next → Left p (map_got (sets ls (item_place i)) (read i (drop p s))) answer left
         → Going ls₀ s at (i + 1) next left
     goes_on answer next left h t a l =
         record { rest = rw (add-one i) (rest-on s (read_lists read (26 - suc i) (suc i) pattern) (step h t) answer next left a l); some = omega arith }
 
-    pub stops : (answer : ListAnswer) (r : Refusal) (left : List ℤ) → i < 26 → item_coded pattern i ≡ true → answer ≡ Refused r → Left p (map_got (sets ls (item_place i)) (read i (drop p s))) answer left
-        → Left at (read_lists read 26 0 pattern ls₀ (drop at s)) (Refused r) left
+    pub stops : (answer : Result ℕ Refusal) (r : Refusal) (left : List ℤ) → i < 26 → item_coded pattern i ≡ true → answer ≡ Err r → Left p (map_got (sets ls (item_place i)) (read i (drop p s))) answer left
+        → Left at (read_lists read 26 0 pattern ls₀ (drop at s)) (Err r) left
     stops answer r left h t a l = rest-stops s (read_lists read (26 - suc i) (suc i) pattern) (step h t) answer r left a l
 
     pub passes : {e : ℕ} → Group i e → item_coded pattern i ≡ false → Going ls₀ s at e p ls
@@ -130,7 +132,7 @@ module _ {E : Type 0} (read : ℕ → List E → Got (List ℤ)) (pattern : ℕ)
       some = r.most;
     }
 
-    pub ends : 26 ≤ i → Left at (read_lists read 26 0 pattern ls₀ (drop at s)) (End p) ls
+    pub ends : 26 ≤ i → Left at (read_lists read 26 0 pattern ls₀ (drop at s)) (Ok p) ls
     unfolding read_lists
     ends h =
         let z : 26 - i ≡ 0 = omega arith in

@@ -1,11 +1,9 @@
 -- The two (level, run) books: what each code says, and the code that says a level and a run.
 -- Assumes nothing.
-use Rattle.std.specs.Prelude.{cond, ◌&&◌, List, [], ◌∷◌, ℕ, suc, ◌+◌, ◌-◌, ◌*◌, ◌/◌, ◌%◌, eqb, ltb, ℤ, pos, negsuc, neg_ℤ, get_or}
+use Rattle.std.specs.Prelude.{cond, ◌&&◌, List, [], ◌∷◌, ℕ, suc, ◌+◌, ◌-◌, ◌*◌, ◌/◌, ◌%◌, eqb, ltb, ℤ, pos, negsuc, neg_ℤ, get_or, Option, Some, None}
 use Rattle.bits.specs.Bits.{odd}
 use Rattle.levels.specs.declared.svq3_coeff.ResidualBook.{ResidualBook}
 use Rattle.levels.specs.declared.svq3_coeff.ResidualBook.TheVariants.{NormalScan, ChromaDc}
-use Rattle.levels.specs.declared.svq3_coeff.LevelRun.{LevelRun}
-use Rattle.levels.specs.declared.svq3_coeff.LevelRun.TheVariants.{End, Pair}
 
 -- codes 2 h - 1 and 2 h say one magnitude and one run: their h
 abbrev pub half : ℕ → ℕ
@@ -58,9 +56,13 @@ level_of k m = cond (odd k) (pos m) (neg_ℤ (pos m))
 unfoldable pub level : ResidualBook → ℕ → ℤ
 level book k = level_of k (magnitude book k)
 
+-- what a code says: a level and the number of positions that it leaves out before it; none says the end of the list
+abbrev pub LevelRun : Type 0
+LevelRun = Option (ℤ × ℕ)
+
 -- what code k says
 unfoldable pub resolve : ResidualBook → ℕ → LevelRun
-resolve book k = cond (eqb k 0) End (Pair (level book k) (run book k))
+resolve book k = cond (eqb k 0) None (Some (level book k, run book k))
 
 -- ---- the other way
 -- the first entry that has the magnitude m and the run r

@@ -6,9 +6,10 @@ use Rattle.ints.specs.Z.{when◌then◌else◌}
 use Rattle.refusal.specs.Got.{Got, got, refused}
 use Rattle.levels.specs.Book.{positions}
 use Rattle.levels.specs.Levels.{zeros, block}
-use Rattle.levels.specs.InnerLevels.{list_answer}
+use Rattle.refusal.specs.Answered.{reached}
 use Rattle.levels.specs.declared.svq3_coeff.ResidualBook.{ResidualBook}
-use Rattle.levels.specs.declared.svq3_coeff.ListAnswer.{ListAnswer}
+use Rattle.refusal.specs.declared.Refusal.{Refusal}
+use Rattle.std.specs.Prelude.{Result}
 use Rattle.levels.specs.Items.{item_coded, item_count, item_place, read_item}
 
 -- what `next` leaves behind a list, or `stop` where the list is refused
@@ -31,6 +32,6 @@ left_side book start (suc n) place levels s =
     or_stop (block book start s) s (sets levels place (zeros (positions book))) (λ found rest. left_side book start n (place + positions book) (sets levels place found) rest)
 
 -- of a reader that found these levels and started at a place of the bits s: its answer, and the levels that it leaves, whatever it answers
-pub record Leaves (read : List ℤ → List Bool → Got (List ℤ)) (left : List ℤ → List Bool → List ℤ) (levels : List ℤ) (s : List Bool) (at : ℕ) (answer : ListAnswer) (out : List ℤ) : Type 0 where
-  pub answers : answer ≡ list_answer at (read levels (drop at s))
+pub record Leaves (read : List ℤ → List Bool → Got (List ℤ)) (left : List ℤ → List Bool → List ℤ) (levels : List ℤ) (s : List Bool) (at : ℕ) (answer : Result ℕ Refusal) (out : List ℤ) : Type 0 where
+  pub answers : answer ≡ reached at (read levels (drop at s))
   pub leaves : out ≡ left levels (drop at s)

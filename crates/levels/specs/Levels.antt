@@ -7,8 +7,8 @@ use Rattle.bits.specs.Code.{code, code_bits, CodeRange}
 use Rattle.levels.specs.Book.{positions, resolve, code_of_level}
 use Rattle.levels.specs.Scan.{raster, unraster}
 use Rattle.levels.specs.declared.svq3_coeff.ResidualBook.{ResidualBook}
-use Rattle.levels.specs.declared.svq3_coeff.LevelRun.{LevelRun}
-use Rattle.levels.specs.declared.svq3_coeff.LevelRun.TheVariants as said
+use Rattle.levels.specs.Book.{LevelRun}
+use Rattle.std.specs.Prelude.{Some, None}
 
 abbrev pub zeros : ℕ → List ℤ
 zeros n = replicate n (pos 0)
@@ -19,8 +19,8 @@ level_run book s = map_got (resolve book) (code s)
 
 -- what a code does at a position of `count`: the end leaves 0 from there on; a level stands `run` positions on, where the list must still have one, and `next` reads on behind it
 abbrev pub standing : ℕ → ℕ → LevelRun → (ℕ → Got (List ℤ)) → Got (List ℤ)
-standing count position said.End next = got (zeros (count - position)) 0
-standing count position (said.Pair level run) next =
+standing count position None next = got (zeros (count - position)) 0
+standing count position (Some (level, run)) next =
     cond (ltb (position + run) count)
     (map_got (λ ls. zeros run ++ level ∷ ls) (next (position + run + 1)))
     (refused (LevelPosition (position + run)))

@@ -7,9 +7,8 @@ ghost use Rattle.levels.specs.InnerSides.{read_side};
 ghost use Rattle.levels.specs.InnerLeft.{left_side, left_items, Leaves};
 
 use crate::svq3_cbp::{chroma_class, luma_quadrant_coded};
-use crate::svq3_coeff::{
-    ListAnswer, ResidualBook, decode_chroma_dc_2x2, decode_residual_4x4_normal,
-};
+use crate::svq3_coeff::{ResidualBook, decode_chroma_dc_2x2, decode_residual_4x4_normal};
+use refusal::Refusal;
 
 // Lists 0 to 15 are luma blocks, 16 and 17 chroma DC, 18 to 25 chroma AC.
 pub fn item_coded(pattern: u8, i: usize) -> bool
@@ -58,86 +57,74 @@ fn read_blocks(
     place: usize,
     count: usize,
     start: u32,
-) -> ListAnswer
+) -> Result<usize, Refusal>
     requires { (place + 16 * count ≤ length levels.old) × (start ≤ 1) × (length bits.now < 2 ^ 61) }
     ensures { Leaves (read_side ResidualBook.NormalScan start count place) (left_side ResidualBook.NormalScan start count place) levels.old (bit_list bits.now) at result levels.new }
 {
     let mut p = at;
-    let mut i = 0;
-    while i < count {
-        match decode_residual_4x4_normal(levels, place + 16 * i, bits, p, start) {
-            ListAnswer::End(next) => {
-                p = next;
-                i += 1;
-            }
-            ListAnswer::Refused(r) => return ListAnswer::Refused(r),
-        }
+    for i in 0..count {
+        p = decode_residual_4x4_normal(levels, place + 16 * i, bits, p, start)?;
     }
-    ListAnswer::End(p)
+    Ok(p)
 }
 
 // Cb DC and Cr DC.
-fn read_dc(levels: &mut [i32], bits: &[u8], at: usize) -> ListAnswer
+fn read_dc(levels: &mut [i32], bits: &[u8], at: usize) -> Result<usize, Refusal>
     requires { (length levels.old ≡ 392) × (length bits.now < 2 ^ 61) }
     ensures { Leaves (read_side ResidualBook.ChromaDc 0 2 256) (left_side ResidualBook.ChromaDc 0 2 256) levels.old (bit_list bits.now) at result levels.new }
 {
-    match decode_chroma_dc_2x2(levels, 256, bits, at) {
-        ListAnswer::End(next) => decode_chroma_dc_2x2(levels, 260, bits, next),
-        ListAnswer::Refused(r) => ListAnswer::Refused(r),
-    }
+    let next = decode_chroma_dc_2x2(levels, 256, bits, at)?;
+    decode_chroma_dc_2x2(levels, 260, bits, next)
 }
 
 // The four lists of luma quadrant q, where they are coded.
-fn read_quadrant(levels: &mut [i32], bits: &[u8], at: usize, pattern: u8, q: usize) -> ListAnswer
+fn read_quadrant(
+    levels: &mut [i32],
+    bits: &[u8],
+    at: usize,
+    pattern: u8,
+    q: usize,
+) -> Result<usize, Refusal>
     requires { (length levels.old ≡ 392) × (length bits.now < 2 ^ 61) × (q < 4) }
     ensures { Leaves (read_items 4 (4 * q) pattern) (left_items 4 (4 * q) pattern) levels.old (bit_list bits.now) at result levels.new }
 {
     if luma_quadrant_coded(pattern, q as u32) {
         return read_blocks(levels, bits, at, 64 * q, 4, 0);
     }
-    ListAnswer::End(at)
+    Ok(at)
 }
 
 // The eight chroma AC lists, where they are coded.
-fn read_ac(levels: &mut [i32], bits: &[u8], at: usize, pattern: u8) -> ListAnswer
+fn read_ac(levels: &mut [i32], bits: &[u8], at: usize, pattern: u8) -> Result<usize, Refusal>
     requires { (length levels.old ≡ 392) × (length bits.now < 2 ^ 61) }
     ensures { Leaves (read_items 8 18 pattern) (left_items 8 18 pattern) levels.old (bit_list bits.now) at result levels.new }
 {
     if chroma_class(pattern) == 2 {
         return read_blocks(levels, bits, at, 264, 8, 1);
     }
-    ListAnswer::End(at)
+    Ok(at)
 }
 
 // All chroma lists that are coded.
-fn read_chroma(levels: &mut [i32], bits: &[u8], at: usize, pattern: u8) -> ListAnswer
+fn read_chroma(levels: &mut [i32], bits: &[u8], at: usize, pattern: u8) -> Result<usize, Refusal>
     requires { (length levels.old ≡ 392) × (length bits.now < 2 ^ 61) }
     ensures { Leaves (read_items 10 16 pattern) (left_items 10 16 pattern) levels.old (bit_list bits.now) at result levels.new }
 {
     if chroma_class(pattern) == 0 {
-        return ListAnswer::End(at);
+        return Ok(at);
     }
-    match read_dc(levels, bits, at) {
-        ListAnswer::End(next) => read_ac(levels, bits, next, pattern),
-        ListAnswer::Refused(r) => ListAnswer::Refused(r),
-    }
+    let next = read_dc(levels, bits, at)?;
+    read_ac(levels, bits, next, pattern)
 }
 
 // All coded lists, each stored at its place.
-pub fn read_items(levels: &mut [i32], bits: &[u8], at: usize, pattern: u8) -> ListAnswer
+pub fn read_items(levels: &mut [i32], bits: &[u8], at: usize, pattern: u8) -> Result<usize, Refusal>
     requires { (length levels.old ≡ 392) × (length bits.now < 2 ^ 61) }
     ensures { Leaves (read_items 26 0 pattern) (left_items 26 0 pattern) levels.old (bit_list bits.now) at result levels.new }
 {
     let mut p = at;
-    let mut q = 0;
-    while q < 4 {
-        match read_quadrant(levels, bits, p, pattern, q) {
-            ListAnswer::End(next) => {
-                p = next;
-                q += 1;
-            }
-            ListAnswer::Refused(r) => return ListAnswer::Refused(r),
-        }
+    for q in 0..4 {
+        p = read_quadrant(levels, bits, p, pattern, q)?;
     }
     read_chroma(levels, bits, p, pattern)
 }

@@ -1,10 +1,11 @@
 // The coded block pattern of an inter macroblock. What it means is specs/Pattern.antt.
 ghost use Rattle.std.specs.Prelude.{◌≡◌, ◌<◌, ◌^◌, length, drop};
 ghost use Rattle.bits.specs.Bits.{bit_list};
-ghost use Rattle.levels.specs.InnerPattern.{pattern_entry, pattern_answer};
+ghost use Rattle.refusal.specs.Answered.{answered};
+ghost use Rattle.levels.specs.InnerPattern.{pattern_entry};
 ghost use Rattle.levels.specs.Pattern.{pattern, class_of, quadrant_coded};
 
-use bits::svq3::{CodeAnswer, read_universal_code};
+use bits::svq3::read_universal_code;
 use refusal::Refusal;
 
 const INTER_CBP_TABLE: [u8; 48] = [
@@ -13,42 +14,24 @@ const INTER_CBP_TABLE: [u8; 48] = [
 ];
 
 // The table at a code.
-#[derive(Clone, Copy)]
-pub enum CbpEntry {
-    Entry(u8),
-    Missing,
-}
-
-#[derive(Clone, Copy)]
-pub enum CbpAnswer {
-    // a pattern, 0 to 47, and the place after it
-    Pattern(u8, usize),
-    Refused(Refusal),
-}
-
-fn inter_cbp(code: u32) -> CbpEntry
+fn inter_cbp(code: u32) -> Option<u8>
     ensures { result ≡ pattern_entry code }
 {
     if code < 48 {
-        CbpEntry::Entry(INTER_CBP_TABLE[code as usize])
+        Some(INTER_CBP_TABLE[code as usize])
     } else {
-        CbpEntry::Missing
+        None
     }
 }
 
-pub fn read_cbp_inter(bits: &[u8], at: usize) -> CbpAnswer
+// A pattern, 0 to 47.
+pub fn read_cbp_inter(bits: &[u8], at: usize) -> Result<(u8, usize), Refusal>
     requires { length bits.now < 2 ^ 61 }
-    ensures { result ≡ pattern_answer at (pattern (drop at (bit_list bits.now))) }
+    ensures { result ≡ answered at (pattern (drop at (bit_list bits.now))) }
 {
-    match read_universal_code(bits, at) {
-        CodeAnswer::Code(code, next) => {
-            let CbpEntry::Entry(cbp) = inter_cbp(code) else {
-                return CbpAnswer::Refused(Refusal::InvalidFrameCode(code));
-            };
-            CbpAnswer::Pattern(cbp, next)
-        }
-        CodeAnswer::Refused(r) => CbpAnswer::Refused(r),
-    }
+    let (code, next) = read_universal_code(bits, at)?;
+    let cbp = inter_cbp(code).ok_or(Refusal::InvalidFrameCode(code))?;
+    Ok((cbp, next))
 }
 
 // Whether luma quadrant 0 to 3, by rows, has levels.

@@ -1,17 +1,18 @@
 // The (level, run) code books, and the lists of levels that their codes make. The books and lists are those of specs/Book.antt and specs/Levels.antt.
 ghost use Rattle.std.specs.Prelude.{◌≡◌, ◌+◌, ◌≤◌, ◌<◌, ◌^◌, length, get_or, drop};
 ghost use Rattle.std.proofs.lemmas.List.Edits.{sets};
+ghost use Rattle.refusal.specs.Answered.{answered};
 ghost use Rattle.bits.specs.Bits.{bit_list};
 ghost use Rattle.bits.specs.InnerWindow.{Shows};
 ghost use Rattle.levels.specs.Book.{positions, half, level_of, level, run, resolve};
 ghost use Rattle.levels.specs.InnerShort.{entries, entry_level};
 ghost use Rattle.levels.specs.Levels.{zeros, level_run, block};
-ghost use Rattle.levels.specs.InnerLevels.{step_answer, Stepped, Decoded};
+ghost use Rattle.levels.specs.InnerLevels.{Stepped, Decoded};
 
 use crate::digits::digit;
 use crate::short_codes::{chroma_dc, normal_scan};
 use crate::svq3_scan::{place_of, positions_of};
-use bits::svq3::{CodeAnswer, read_universal_code};
+use bits::svq3::read_universal_code;
 use bits::window::{Window, pass, window_at};
 use refusal::Refusal;
 
@@ -22,15 +23,6 @@ pub enum ResidualBook {
     NormalScan,
     // the 2×2 chroma DC block
     ChromaDc,
-}
-
-// What a code says.
-#[derive(Clone, Copy)]
-pub enum LevelRun {
-    // the end of the list
-    End,
-    // a level, and the number of positions that it leaves out before it
-    Pair(i32, u32),
 }
 
 // Magnitude and run by (code + 1) / 2: codes 2 h - 1 and 2 h have those of digit h, the one positive, the other negative.
@@ -69,75 +61,58 @@ fn half_of(code: u32) -> u32
     code / 2 + code % 2
 }
 
-fn normal_level_run(code: u32) -> LevelRun
-    ensures { result ≡ LevelRun.Pair (level ResidualBook.NormalScan code) (run ResidualBook.NormalScan code) }
+fn normal_level_run(code: u32) -> (i32, u32)
+    ensures { result ≡ (level ResidualBook.NormalScan code, run ResidualBook.NormalScan code) }
 {
     let half = half_of(code);
     if code < NORMAL_SCAN_ESCAPE {
         let magnitude = digit(NORMAL_SCAN_MAGNITUDES, half);
         let run = digit(NORMAL_SCAN_RUNS, half);
-        return LevelRun::Pair(level_of(code, magnitude), run);
+        return (level_of(code, magnitude), run);
     }
     let run = half % 16;
     let magnitude = (code - NORMAL_SCAN_ESCAPE) / 32 + NORMAL_SCAN_ESCAPE_LEVEL_BASE[run as usize];
-    LevelRun::Pair(level_of(code, magnitude), run)
+    (level_of(code, magnitude), run)
 }
 
-fn chroma_dc_level_run(code: u32) -> LevelRun
-    ensures { result ≡ LevelRun.Pair (level ResidualBook.ChromaDc code) (run ResidualBook.ChromaDc code) }
+fn chroma_dc_level_run(code: u32) -> (i32, u32)
+    ensures { result ≡ (level ResidualBook.ChromaDc code, run ResidualBook.ChromaDc code) }
 {
     let half = half_of(code);
     if code < CHROMA_DC_ESCAPE {
         let magnitude = digit(CHROMA_DC_MAGNITUDES, half);
         let run = digit(CHROMA_DC_RUNS, half);
-        return LevelRun::Pair(level_of(code, magnitude), run);
+        return (level_of(code, magnitude), run);
     }
     let run = half % 4;
     let magnitude = (code - CHROMA_DC_ESCAPE_CODE_BASE[run as usize]) / 8 + 3;
-    LevelRun::Pair(level_of(code, magnitude), run)
+    (level_of(code, magnitude), run)
 }
 
-pub fn resolve_level_run(book: ResidualBook, code: u32) -> LevelRun
+// What a code says: a level and the number of positions that it leaves out before it; none is the end of a list.
+pub fn resolve_level_run(book: ResidualBook, code: u32) -> Option<(i32, u32)>
     ensures { result ≡ resolve book code }
 {
     if code == 0 {
-        return LevelRun::End;
+        return None;
     }
     match book {
-        ResidualBook::NormalScan => normal_level_run(code),
-        ResidualBook::ChromaDc => chroma_dc_level_run(code),
+        ResidualBook::NormalScan => Some(normal_level_run(code)),
+        ResidualBook::ChromaDc => Some(chroma_dc_level_run(code)),
     }
-}
-
-// The next code of a list.
-#[derive(Clone, Copy)]
-pub enum Step {
-    // a level, its run and the place after the code
-    Level(i32, u32, usize),
-    // the end of the list: the place after the code
-    End(usize),
-    Refused(Refusal),
-}
-
-#[derive(Clone, Copy)]
-pub enum ListAnswer {
-    // the place after the list
-    End(usize),
-    Refused(Refusal),
 }
 
 // The next code of a list, read from the bytes.
-fn read_level(bits: &[u8], at: usize, book: ResidualBook) -> Step
+fn read_level(
+    bits: &[u8],
+    at: usize,
+    book: ResidualBook,
+) -> Result<(Option<(i32, u32)>, usize), Refusal>
     requires { length bits.now < 2 ^ 61 }
-    ensures { result ≡ step_answer at (level_run book (drop at (bit_list bits.now))) }
+    ensures { result ≡ answered at (level_run book (drop at (bit_list bits.now))) }
 {
-    match read_universal_code(bits, at) {
-        CodeAnswer::Code(code, next) => match resolve_level_run(book, code) {
-            LevelRun::Pair(level, run) => Step::Level(level, run, next),
-            LevelRun::End => Step::End(next),
-        },
-        CodeAnswer::Refused(r) => Step::Refused(r),
-    }
+    let (code, next) = read_universal_code(bits, at)?;
+    Ok((resolve_level_run(book, code), next))
 }
 
 // What the look-up of a book says of seven bits, the first of them 0.
@@ -157,38 +132,31 @@ fn entry_level(entry: u32) -> i32
     (entry / 65536) as i32 - 4
 }
 
-// A step, and the window of the bits behind it.
+// What the next code of a list says, the place behind it, and the window of the bits there.
 #[derive(Clone, Copy)]
 pub struct Taken {
-    pub step: Step,
+    pub said: Option<(i32, u32)>,
+    pub next: usize,
     pub window: Window,
 }
 
 // The next code of a list, read from the bytes, with a window taken anew behind it.
-fn read_next(bits: &[u8], at: usize, book: ResidualBook) -> Taken
+fn read_next(bits: &[u8], at: usize, book: ResidualBook) -> Result<Taken, Refusal>
     requires { length bits.now < 2 ^ 61 }
-    ensures { Stepped book (bit_list bits.now) at result.step result.window.word result.window.known }
+    ensures { Stepped book (bit_list bits.now) at result }
 {
-    match read_level(bits, at, book) {
-        Step::Level(level, run, next) => Taken {
-            step: Step::Level(level, run, next),
-            window: window_at(bits, next),
-        },
-        Step::End(next) => Taken {
-            step: Step::End(next),
-            window: Window { word: 0, known: 0 },
-        },
-        Step::Refused(r) => Taken {
-            step: Step::Refused(r),
-            window: Window { word: 0, known: 0 },
-        },
-    }
+    let (said, next) = read_level(bits, at, book)?;
+    Ok(Taken {
+        said,
+        next,
+        window: window_at(bits, next),
+    })
 }
 
 // The next code of a list: taken from the window where all of its bits are there and are at most seven, else read from the bytes.
-fn next_level(bits: &[u8], at: usize, book: ResidualBook, window: Window) -> Taken
+fn next_level(bits: &[u8], at: usize, book: ResidualBook, window: Window) -> Result<Taken, Refusal>
     requires { (length bits.now < 2 ^ 61) × Shows window.word window.known (drop at (bit_list bits.now)) }
-    ensures { Stepped book (bit_list bits.now) at result.step result.window.word result.window.known }
+    ensures { Stepped book (bit_list bits.now) at result }
 {
     let word = window.word;
     let known = window.known;
@@ -196,33 +164,22 @@ fn next_level(bits: &[u8], at: usize, book: ResidualBook, window: Window) -> Tak
         let entry = entry_of(book, word >> 57);
         let size = entry % 256;
         if size <= known {
-            let next = at + size as usize;
-            return Taken {
-                step: Step::Level(entry_level(entry), entry / 256 % 256, next),
+            return Ok(Taken {
+                said: Some((entry_level(entry), entry / 256 % 256)),
+                next: at + size as usize,
                 window: pass(window, size),
-            };
+            });
         }
     } else {
         if 0 < known {
-            let next = at + 1;
-            return Taken {
-                step: Step::End(next),
+            return Ok(Taken {
+                said: None,
+                next: at + 1,
                 window,
-            };
+            });
         }
     }
     read_next(bits, at, book)
-}
-
-fn clear_levels(out: &mut [i32], base: usize, count: usize)
-    requires { base + count ≤ length out.old }
-    ensures { out.new ≡ sets out.old base (zeros count) }
-{
-    let mut i = 0;
-    while i < count {
-        out[base + i] = 0;
-        i += 1;
-    }
 }
 
 // The room of a list made 0, with a count that the compiler knows.
@@ -231,8 +188,8 @@ fn clear_list(out: &mut [i32], base: usize, book: ResidualBook)
     ensures { out.new ≡ sets out.old base (zeros (positions book)) }
 {
     match book {
-        ResidualBook::NormalScan => clear_levels(out, base, 16),
-        ResidualBook::ChromaDc => clear_levels(out, base, 4),
+        ResidualBook::NormalScan => out[base..base + 16].fill(0),
+        ResidualBook::ChromaDc => out[base..base + 4].fill(0),
     }
 }
 
@@ -245,7 +202,7 @@ fn decode_list(
     at: usize,
     book: ResidualBook,
     start: u32,
-) -> ListAnswer
+) -> Result<usize, Refusal>
     requires { (base + positions book ≤ length out.old) × (start ≤ positions book) × (length bits.now < 2 ^ 61) }
     ensures { Decoded at (positions book) (block book start (drop at (bit_list bits.now))) out.old base result out.new }
 {
@@ -253,30 +210,27 @@ fn decode_list(
     clear_list(out, base, book);
     let mut position = start;
     let mut p = at;
-    let first = window_at(bits, at);
-    let mut word = first.word;
-    let mut known = first.known;
+    let mut window = window_at(bits, at);
     loop {
-        let taken = next_level(bits, p, book, Window { word, known });
-        let step = taken.step;
-        match step {
-            Step::Level(level, run, next) => {
+        match next_level(bits, p, book, window) {
+            Ok(taken) => {
+                let Some((level, run)) = taken.said else {
+                    return Ok(taken.next);
+                };
                 let reached = position + run;
                 if count <= reached {
                     clear_list(out, base, book);
-                    return ListAnswer::Refused(Refusal::LevelPosition(reached));
+                    return Err(Refusal::LevelPosition(reached));
                 }
                 let place = place_of(book, reached);
                 out[base + place] = level;
                 position = reached + 1;
-                p = next;
-                word = taken.window.word;
-                known = taken.window.known;
+                p = taken.next;
+                window = taken.window;
             }
-            Step::End(next) => return ListAnswer::End(next),
-            Step::Refused(r) => {
+            Err(r) => {
                 clear_list(out, base, book);
-                return ListAnswer::Refused(r);
+                return Err(r);
             }
         }
     }
@@ -289,7 +243,7 @@ pub fn decode_residual_4x4_normal(
     bits: &[u8],
     at: usize,
     start: u32,
-) -> ListAnswer
+) -> Result<usize, Refusal>
     requires { (base + 16 ≤ length out.old) × (start ≤ 1) × (length bits.now < 2 ^ 61) }
     ensures { Decoded at 16 (block ResidualBook.NormalScan start (drop at (bit_list bits.now))) out.old base result out.new }
 {
@@ -297,7 +251,12 @@ pub fn decode_residual_4x4_normal(
 }
 
 // The four chroma DC levels of a plane.
-pub fn decode_chroma_dc_2x2(out: &mut [i32], base: usize, bits: &[u8], at: usize) -> ListAnswer
+pub fn decode_chroma_dc_2x2(
+    out: &mut [i32],
+    base: usize,
+    bits: &[u8],
+    at: usize,
+) -> Result<usize, Refusal>
     requires { (base + 4 ≤ length out.old) × (length bits.now < 2 ^ 61) }
     ensures { Decoded at 4 (block ResidualBook.ChromaDc 0 (drop at (bit_list bits.now))) out.old base result out.new }
 {

@@ -4,7 +4,7 @@ use Rattle.std.specs.Prelude.{◌≡◌, ℕ, ◌+◌, Result, Ok, Err, IsErr, I
 use mathlib.Core.Path.{refl, sym, ap}
 use native.Mathlib.Omega.{arith}
 use Rattle.refusal.specs.Got.{Got, got, refused, map_got}
-use Rattle.refusal.specs.Answered.{answered, ended}
+use Rattle.refusal.specs.Answered.{answered, reached}
 use Rattle.refusal.specs.declared.Refusal.{Refusal}
 
 -- a value was answered: the definition gives it, and the place moved by what it took
@@ -23,13 +23,13 @@ pub answered-refused : {X : Type 0} (at : ℕ) (g : Got X) (r : Refusal) → Err
 answered-refused at (got y n) r e = absurd (let z : ◌≡◌ {A = ℕ} 0 1 = cc in omega arith)
 answered-refused at (refused q) r e = ap refused (cc)
 
-pub ended-got : {X : Type 0} (at : ℕ) (g : Got X) (next : ℕ) → Ok next ≡ ended at g → (x : X) × Answered at g x next
-ended-got at (got y n) next e = (y, record { taken = n; is = refl; moved = cc })
-ended-got at (refused r) next e = absurd (let z : ◌≡◌ {A = ℕ} 0 1 = cc in omega arith)
+pub reached-got : {X : Type 0} (at : ℕ) (g : Got X) (next : ℕ) → Ok next ≡ reached at g → (x : X) × Answered at g x next
+reached-got at (got y n) next e = (y, record { taken = n; is = refl; moved = cc })
+reached-got at (refused r) next e = absurd (let z : ◌≡◌ {A = ℕ} 0 1 = cc in omega arith)
 
-pub ended-refused : {X : Type 0} (at : ℕ) (g : Got X) (r : Refusal) → Err r ≡ ended at g → g ≡ refused r
-ended-refused at (got y n) r e = absurd (let z : ◌≡◌ {A = ℕ} 0 1 = cc in omega arith)
-ended-refused at (refused q) r e = ap refused (cc)
+pub reached-refused : {X : Type 0} (at : ℕ) (g : Got X) (r : Refusal) → Err r ≡ reached at g → g ≡ refused r
+reached-refused at (got y n) r e = absurd (let z : ◌≡◌ {A = ℕ} 0 1 = cc in omega arith)
+reached-refused at (refused q) r e = ap refused (cc)
 
 -- a value read from what was answered, whatever was answered
 pub answered-map : {X Y : Type 0} (f : X → Y) (at : ℕ) (g : Got X) (x : X) (next : ℕ) → Ok (x, next) ≡ answered at g → Ok (f x, next) ≡ answered at (map_got f g)

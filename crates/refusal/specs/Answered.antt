@@ -9,7 +9,7 @@ abbrev pub answered : {X : Type 0} → ℕ → Got X → Result (X × ℕ) Refus
 answered at (got x n) = Ok (x, at + n)
 answered at (refused r) = Err r
 
--- the place alone
-abbrev pub ended : {X : Type 0} → ℕ → Got X → Result ℕ Refusal
-ended at (got x n) = Ok (at + n)
-ended at (refused r) = Err r
+-- the place that it reached
+abbrev pub reached : {X : Type 0} → ℕ → Got X → Result ℕ Refusal
+reached at (got x n) = Ok (at + n)
+reached at (refused r) = Err r

@@ -6,6 +6,7 @@ use Rattle.bits.specs.Bits.{bit_list}
 use Rattle.levels.specs.declared.svq3_coeff.ResidualBook.TheVariants.{NormalScan}
 use Rattle.levels.specs.InnerSides.{read_side}
 use Rattle.levels.specs.InnerLeft.{left_side}
+use Rattle.refusal.proofs.Answered.{handed}
 use Rattle.levels.proofs.Left.{goes-all, side-on, side-stops, side-ends}
 use Rattle.levels.proofs.items.read_blocks.Goals as goal
 
@@ -25,25 +26,19 @@ overflow_add-place c = record { fits = omega (arith, c.loop-i-test.true, c.requi
 pub decode_residual_4x4_normal-requires : goal.decode_residual_4x4_normal-requires
 decode_residual_4x4_normal-requires c = (omega (arith, c.loop-i-test.true, c.requires.0, c.loop-i.invariant.2), c.requires.1, c.requires.2)
 
-pub overflow_add-i : goal.overflow_add-i
-overflow_add-i c = omega (arith, c.loop-i-test.true)
-
-pub loop-i-smaller : goal.loop-i-smaller
-loop-i-smaller c = omega (arith, c.loop-i-test.true)
-
 pub loop-i-preserved : goal.loop-i-preserved
 loop-i-preserved c =
     let a = c.args in
     let l = c.loop-i in
     let h = c.loop-i-test.true in
     let d = c.decode_residual_4x4_normal in
-    (side-on NormalScan a.start a.place a.count l.i l.p l.levels l.invariant.0 h _ _ d.ensures _ c.in-End.is, omega (arith, h), d.auto.out ∙ l.invariant.2)
+    (side-on NormalScan a.start a.place a.count l.i l.p l.levels l.invariant.0 h _ _ d.ensures _ c.in_ok-p.was, omega (arith, h), d.auto.out ∙ l.invariant.2)
 
-pub returns-in-Refused : goal.returns-in-Refused
-returns-in-Refused c =
+pub returns-in_err-p : goal.returns-in_err-p
+returns-in_err-p c =
     let a = c.args in
     let l = c.loop-i in
-    side-stops NormalScan a.start a.place a.count l.i l.p l.levels l.invariant.0 c.loop-i-test.true _ _ c.decode_residual_4x4_normal.ensures _ c.in-Refused.is
+    rw (handed _ _ c.from_residual.ensures) (side-stops NormalScan a.start a.place a.count l.i l.p l.levels l.invariant.0 c.loop-i-test.true _ _ c.decode_residual_4x4_normal.ensures _ c.in_err-p.was)
 
 pub returns : goal.returns
 returns c =

@@ -4,6 +4,7 @@ use native.Mathlib.Omega.{arith}
 use Rattle.bits.specs.Bits.{bit_list}
 use Rattle.levels.specs.Items.{read_items}
 use Rattle.levels.specs.InnerLeft.{left_items}
+use Rattle.refusal.proofs.Answered.{handed}
 use Rattle.levels.proofs.Left.{goes-all, goes_last, quadrant-on, quadrant-stops}
 use Rattle.levels.proofs.items.read_items.Goals as goal
 
@@ -22,13 +23,13 @@ loop-q-preserved c =
     let l = c.loop-q in
     let h = c.loop-q-test.true in
     let d = c.read_quadrant in
-    (quadrant-on a.pattern l.q l.p l.levels h l.invariant.0 _ _ d.ensures _ c.in-End.is, omega (arith, h), d.auto.levels ∙ l.invariant.2)
+    (quadrant-on a.pattern l.q l.p l.levels h l.invariant.0 _ _ d.ensures _ c.in_ok-p.was, omega (arith, h), d.auto.levels ∙ l.invariant.2)
 
-pub returns-in-Refused : goal.returns-in-Refused
-returns-in-Refused c =
+pub returns-in_err-p : goal.returns-in_err-p
+returns-in_err-p c =
     let a = c.args in
     let l = c.loop-q in
-    quadrant-stops a.pattern l.q l.p l.levels c.loop-q-test.true l.invariant.0 _ _ c.read_quadrant.ensures _ c.in-Refused.is
+    rw (handed _ _ c.from_residual.ensures) (quadrant-stops a.pattern l.q l.p l.levels c.loop-q-test.true l.invariant.0 _ _ c.read_quadrant.ensures _ c.in_err-p.was)
 
 pub returns : goal.returns
 returns c =

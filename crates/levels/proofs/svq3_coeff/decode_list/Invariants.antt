@@ -8,9 +8,9 @@ use Rattle.levels.specs.Book.{positions}
 use Rattle.levels.proofs.Reading.{Reading}
 use Rattle.levels.proofs.svq3_coeff.decode_list.Given as goal
 
-abbrev pub invariant-loop-level : goal.invariant-loop-level
-invariant-loop-level l =
-    Reading l.book l.start l.at (bit_list l.bits) l.initial.out l.base l.position l.p l.out × (l.count ≡ positions l.book) × Shows l.word l.known (drop l.p (bit_list l.bits))
+abbrev pub invariant-loop-taken : goal.invariant-loop-taken
+invariant-loop-taken l =
+    Reading l.book l.start l.at (bit_list l.bits) l.initial.out l.base l.position l.p l.out × (l.count ≡ positions l.book) × Shows l.window.word l.window.known (drop l.p (bit_list l.bits))
 
-abbrev pub decreases-loop-level : goal.decreases-loop-level
-decreases-loop-level l = positions l.book - l.position
+abbrev pub decreases-loop-taken : goal.decreases-loop-taken
+decreases-loop-taken l = positions l.book - l.position

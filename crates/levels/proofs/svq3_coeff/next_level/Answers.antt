@@ -1,5 +1,5 @@
 -- `levels::svq3_coeff::next_level`: a short code is found in the window, any other is read.
-use mathlib.Core.Path.{◌≡◌, ap, sym, ◌∙◌}
+use mathlib.Core.Path.{◌≡◌, refl, ap, sym, ◌∙◌}
 use Prim.Native.Nat.{◌+◌, ◌*◌, ◌≤◌}
 use native.Mathlib.Omega.{arith}
 use lib.ListN.{length, drop}
@@ -9,8 +9,8 @@ use Rattle.refusal.specs.Got.{got}
 use Rattle.bits.specs.Bits.{bit_list}
 use Rattle.levels.specs.InnerShort.{entry_size}
 use Rattle.levels.specs.Levels.{level_run}
-use Rattle.levels.specs.InnerLevels.{step_answer}
-use Rattle.levels.specs.declared.svq3_coeff.LevelRun.TheVariants.{End}
+use Rattle.refusal.specs.Answered.{answered}
+use Rattle.std.specs.Prelude.{None}
 use Rattle.levels.proofs.Shorts.{one_found, size_few, size-some, level-found, entry-stepped, end-stepped, inside}
 use Rattle.levels.proofs.svq3_coeff.next_level.Goals.{Then-known-gt0, Then-size-known}
 use Rattle.levels.proofs.svq3_coeff.next_level.Goals as goal
@@ -26,7 +26,7 @@ there c =
     inside a.book a.bits.now a.at _ _ (level-found a.book b a.at w.word w.known c.requires.1 e.result low e.ensures c.if-size-known.true) (size-some a.book b a.at w.word w.known c.requires.1 e.result low e.ensures c.if-size-known.true)
 
 -- the code 0
-ended : (c : Then-known-gt0) → level_run c.args.book (drop c.args.at (bit_list c.args.bits.now)) ≡ got End 1
+ended : (c : Then-known-gt0) → level_run c.args.book (drop c.args.at (bit_list c.args.bits.now)) ≡ got None 1
 ended c =
     let a = c.args in
     one_found a.book (bit_list a.bits.now) a.at a.window.word a.window.known c.requires.1 c.if-known-gt0.true c.if-word-lt9223372036854775808.false (omega arith)
@@ -44,21 +44,21 @@ returns-then-size-known c =
     let b = bit_list a.bits.now in
     let e = c.entry_of-entry in
     let l = c.entry_level in
-    entry-stepped a.book b a.at a.window.word a.window.known c.requires.1 e.result c.if-word-lt9223372036854775808.true e.ensures c.if-size-known.true _ _ _ (to_z-of_z {w = w32} (record { sfits = l.type_inv }) ∙ l.ensures) (c.pass.ensures (drop a.at b) c.requires.1)
+    entry-stepped a.book b a.at a.window.word a.window.known c.requires.1 e.result c.if-word-lt9223372036854775808.true e.ensures c.if-size-known.true _ _ refl refl (to_z-of_z {w = w32} (record { sfits = l.type_inv }) ∙ l.ensures) (c.pass.ensures (drop a.at b) c.requires.1)
 
 pub returns-then-known-gt0 : goal.returns-then-known-gt0
 returns-then-known-gt0 c =
     let a = c.args in
-    end-stepped a.book (bit_list a.bits.now) a.at _ _ _ (ap (step_answer a.at) (sym (ended c)))
+    end-stepped a.book (bit_list a.bits.now) a.at _ refl (ap (answered a.at) (sym (ended c)))
 
 pub entry_of-entry-requires : goal.entry_of-entry-requires
 entry_of-entry-requires c = omega arith
 
-pub overflow_add-next : goal.overflow_add-next
-overflow_add-next c = omega (arith, there c, c.requires.0)
+pub overflow_add-result : goal.overflow_add-result
+overflow_add-result c = omega (arith, there (goal.at.overflow_add-result c).Then-size-known, c.requires.0)
 
-pub overflow_add-next-then-known-gt0 : goal.overflow_add-next-then-known-gt0
-overflow_add-next-then-known-gt0 c = omega (arith, inside c.args.book c.args.bits.now c.args.at _ _ (ended c) (omega arith), c.requires.0)
+pub overflow_add-result-then-known-gt0 : goal.overflow_add-result-then-known-gt0
+overflow_add-result-then-known-gt0 c = omega (arith, inside c.args.book c.args.bits.now c.args.at _ _ (ended c) (omega arith), c.requires.0)
 
 pub returns : goal.returns
 returns c = c.read_next.ensures

@@ -1,30 +1,23 @@
 -- `levels::svq3_coeff::read_level` answers `level_run` at its place: the code there, taken through the book.
-use mathlib.Core.Path.{◌≡◌, sym, ap, ◌∙◌}
-use borrow.Author.Rules.{rules}
-use lib.IntN.{ℤ}
+use mathlib.Core.Path.{sym, ap, ◌∙◌}
 use lib.ListN.{drop}
-use mir.Syntax.{w32}
-use mir.Val.{to_z, of_z}
+use Rattle.std.specs.Prelude.{Ok}
+use Rattle.refusal.proofs.Answered.{answered-map, refused-map, handed}
 use Rattle.bits.specs.Bits.{bit_list}
-use Rattle.levels.specs.declared.svq3_coeff.Step.TheVariants.{Level}
-use Rattle.levels.proofs.Steps.{step-level, step_end, step-refused}
+use Rattle.bits.specs.Code.{code}
+use Rattle.levels.specs.Book.{LevelRun, resolve}
+use Rattle.levels.specs.Levels.{level_run}
 use Rattle.levels.proofs.svq3_coeff.read_level.Goals as goal
 
-pub returns-in-Pair : goal.returns-in-Pair
-returns-in-Pair c =
+pub returns-in_err-code : goal.returns-in_err-code
+unfolding level_run
+returns-in_err-code c =
     let a = c.args in
-    let s = drop a.at (bit_list a.bits.now) in
-    let l = c.in-Pair.level in
-    let r = c.in-Pair.run' in
-    let z : to_z w32 (of_z w32 l) ≡ l = search rules in
-    ap (λ (x : ℤ). Level x r c.in-Code.next) z ∙ step-level a.at a.book s c.in-Code.code c.in-Code.next l r (sym c.in-Code.is ∙ c.read_universal_code.ensures) (sym c.in-Pair.is ∙ c.resolve_level_run.ensures)
+    handed _ _ c.from_residual.ensures ∙ refused-map (resolve a.book) a.at (code (drop a.at (bit_list a.bits.now))) _ (sym c.in_err-code.was ∙ c.read_universal_code.ensures)
 
-pub returns-in-End : goal.returns-in-End
-returns-in-End c =
+pub returns : goal.returns
+unfolding level_run
+returns c =
     let a = c.args in
-    step_end a.at a.book (drop a.at (bit_list a.bits.now)) c.in-Code.code c.in-Code.next (sym c.in-Code.is ∙ c.read_universal_code.ensures) (sym c.in-End.is ∙ c.resolve_level_run.ensures)
-
-pub returns-in-Refused : goal.returns-in-Refused
-returns-in-Refused c =
-    let a = c.args in
-    step-refused a.at a.book _ _ (sym c.in-Refused.is ∙ c.read_universal_code.ensures)
+    ap (λ (x : LevelRun). Ok (x, c.in_ok-code.next)) c.resolve_level_run.ensures
+    ∙ answered-map (resolve a.book) a.at (code (drop a.at (bit_list a.bits.now))) _ _ (sym c.in_ok-code.was ∙ c.read_universal_code.ensures)
