@@ -11,7 +11,7 @@ use Rattle.record.specs.Record.{Record}
 use Rattle.record.specs.InnerRecord.{record_of}
 use Rattle.record.specs.declared.Head.{Head}
 use Rattle.transcript.specs.InnerParsing.{Parsing}
-use Rattle.transcript.specs.declared.parse.ParseAnswer.TheVariants.{Parsed, Refused}
+use Rattle.std.specs.Prelude.{Result, Ok, Err}
 
 -- a record was answered: the definition gives it, with the vectors and levels that are left, and the place moved by what it took
 pub record ParsedBy (at : ℕ) (g : Got Record) (h : Head) (next : ℕ) (vs ls : List ℤ) : Type 0 where
@@ -19,7 +19,7 @@ pub record ParsedBy (at : ℕ) (g : Got Record) (h : Head) (next : ℕ) (vs ls :
   pub is : g ≡ got (record_of h vs ls) taken
   pub moved : next ≡ at + taken
 
-pub parsed : (at : ℕ) (g : Got Record) (h : Head) (next : ℕ) (vs ls : List ℤ) → Parsing at g (Parsed h next) vs ls → ParsedBy at g h next vs ls
+pub parsed : (at : ℕ) (g : Got Record) (h : Head) (next : ℕ) (vs ls : List ℤ) → Parsing at g (Ok (h, next)) vs ls → ParsedBy at g h next vs ls
 parsed at (got r n) h next vs ls p =
     let l = p.leaves r n refl in
     let e : h ≡ r.head = (let a = p.answers in cc) in
@@ -30,6 +30,6 @@ parsed at (got r n) h next vs ls p =
     }
 parsed at (refused x) h next vs ls p = absurd (let a = p.answers in let z : ◌≡◌ {A = ℕ} 0 1 = cc in omega arith)
 
-pub parse-refused : (at : ℕ) (g : Got Record) (r : Refusal) (vs ls : List ℤ) → Parsing at g (Refused r) vs ls → g ≡ refused r
+pub parse-refused : (at : ℕ) (g : Got Record) (r : Refusal) (vs ls : List ℤ) → Parsing at g (Err r) vs ls → g ≡ refused r
 parse-refused at (got q n) r vs ls p = absurd (let a = p.answers in let z : ◌≡◌ {A = ℕ} 0 1 = cc in omega arith)
 parse-refused at (refused x) r vs ls p = ap refused (let a = p.answers in cc)

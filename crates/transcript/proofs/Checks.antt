@@ -19,15 +19,14 @@ use Rattle.record.specs.declared.Head.{Head}
 use Rattle.record.proofs.Records.{record-format}
 use Rattle.record.proofs.Lengths.{record-some}
 use Rattle.transcript.specs.InnerParsing.{Parsing}
-use Rattle.transcript.specs.declared.parse.ParseAnswer.{ParseAnswer}
-use Rattle.transcript.specs.declared.parse.ParseAnswer.TheVariants as parse
+use Rattle.refusal.specs.declared.Refusal.{Refusal}
+use Rattle.std.specs.Prelude.{Result, Ok, Err}
 use Rattle.transcript.proofs.Answers.{parsed, parse-refused}
 use Rattle.transcript.proofs.Places.{CodedRead}
 use Rattle.transcript.specs.Records.{records_in, records}
-use Rattle.transcript.specs.InnerCheck.{record_answer}
+use Rattle.refusal.specs.Answered.{reached}
 use Rattle.transcript.specs.Check.{check_answer}
-use Rattle.transcript.specs.declared.check.RecordAnswer.TheVariants as one
-use Rattle.transcript.specs.declared.check.CheckAnswer.TheVariants.{Records, Refused}
+use Rattle.std.specs.Prelude.{Result, Ok, Err}
 
 module _ (cols rows : ℕ) where
   pub records-none : (s : List ℕ) (rs : List Record) (n : ℕ) → length s ≡ 0 → records cols rows s ≡ got rs n → rs ≡ []
@@ -35,12 +34,12 @@ module _ (cols rows : ℕ) where
   records-none = until_none (parse_record cols rows)
 
   -- how many there are, as a loop counts them
-  pub records-tally : (s : List ℕ) → check_answer (records cols rows s) ≡ tally Records Refused 0 (until_all (parse_record cols rows) s)
+  pub records-tally : (s : List ℕ) → check_answer (records cols rows s) ≡ tally Ok Err 0 (until_all (parse_record cols rows) s)
   unfolding records records_in
   records-tally s = go (until_all (parse_record cols rows) s)
     where
-      go : (g : Got (List Record)) → check_answer g ≡ tally Records Refused 0 g
-      go (got rs n) = ap Records (omega arith)
+      go : (g : Got (List Record)) → check_answer g ≡ tally Ok Err 0 g
+      go (got rs n) = ap Ok (omega arith)
       go (refused r) = refl
 
   module _ (h : cols ≤ 4096) (k : rows ≤ 4096) where
@@ -65,26 +64,26 @@ grid-takes cols rows e = let g = grid-range cols rows e in record-takes cols row
 
 -- ---- what was answered of one record
 -- what follows its mode was read
-module _ {at : ℕ} {g : Got Record} {a : ParseAnswer} {vs ls : List ℤ} (p : Parsing at g a vs ls) where
-  pub rest_read : (h : Head) (next : ℕ) → a ≡ parse.Parsed h next → one.Record next ≡ record_answer at g
-  rest_read h next i = let b = parsed at g h next vs ls (rw i at p) in ap one.Record b.moved ∙ ap (record_answer at) (sym b.is)
+module _ {at : ℕ} {g : Got Record} {a : Result (Head × ℕ) Refusal} {vs ls : List ℤ} (p : Parsing at g a vs ls) where
+  pub rest_read : (h : Head) (next : ℕ) → a ≡ Ok (h, next) → Ok next ≡ reached at g
+  rest_read h next i = let b = parsed at g h next vs ls (rw i at p) in ap Ok b.moved ∙ ap (reached at) (sym b.is)
 
-  pub rest-refused : (why : Refusal) → a ≡ parse.Refused why → one.Refused why ≡ record_answer at g
-  rest-refused why i = ap (record_answer at) (sym (parse-refused at g why vs ls (rw i at p)))
+  pub rest-refused : (why : Refusal) → a ≡ Err why → Err why ≡ reached at g
+  rest-refused why i = ap (reached at) (sym (parse-refused at g why vs ls (rw i at p)))
 
 -- and ends where the record does
-pub rest-answer : {cols rows : ℕ} {s : List ℕ} {at : ℕ} {h : Head} {next : ℕ} → CodedRead cols rows s at h next → record_answer next (parse_motion h (drop next s)) ≡ record_answer at (parse_record cols rows (drop at s))
-rest-answer {s = s} {at = at} {h = h} {next = next} r = go (parse_motion h (drop next s)) ∙ ap (record_answer at) (sym r.is)
+pub rest-answer : {cols rows : ℕ} {s : List ℕ} {at : ℕ} {h : Head} {next : ℕ} → CodedRead cols rows s at h next → reached next (parse_motion h (drop next s)) ≡ reached at (parse_record cols rows (drop at s))
+rest-answer {s = s} {at = at} {h = h} {next = next} r = go (parse_motion h (drop next s)) ∙ ap (reached at) (sym r.is)
   where
-    go : (g : Got Record) → record_answer next g ≡ record_answer at (after r.taken g)
-    go (got x k) = ap one.Record (omega (arith, r.moved))
+    go : (g : Got Record) → reached next g ≡ reached at (after r.taken g)
+    go (got x k) = ap Ok (omega (arith, r.moved))
     go (refused why) = refl
 
 -- of the definition
-pub record-read : (at : ℕ) (g : Got Record) (next : ℕ) → one.Record next ≡ record_answer at g → (r : Record) × (n : ℕ) × (g ≡ got r n) × (next ≡ at + n)
+pub record-read : (at : ℕ) (g : Got Record) (next : ℕ) → Ok next ≡ reached at g → (r : Record) × (n : ℕ) × (g ≡ got r n) × (next ≡ at + n)
 record-read at (got r n) next e = (r, n, refl, cc)
 record-read at (refused why) next e = absurd (let z : ◌≡◌ {A = ℕ} 0 1 = cc in omega arith)
 
-pub not-record : (at : ℕ) (g : Got Record) (why : Refusal) → one.Refused why ≡ record_answer at g → g ≡ refused why
+pub not-record : (at : ℕ) (g : Got Record) (why : Refusal) → Err why ≡ reached at g → g ≡ refused why
 not-record at (got r n) why e = absurd (let z : ◌≡◌ {A = ℕ} 0 1 = cc in omega arith)
 not-record at (refused w) why e = ap refused (cc)

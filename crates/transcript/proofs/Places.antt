@@ -17,9 +17,9 @@ use Rattle.refusal.specs.declared.Refusal.{Refusal}
 use Rattle.refusal.specs.declared.Refusal.TheVariants.{NumberForm, FieldRange}
 use Rattle.refusal.proofs.Formats.{got-value, never}
 use Rattle.number.specs.Number.{read_number}
-use Rattle.number.specs.InnerNumber.{number_answer}
-use Rattle.number.specs.declared.NumberAnswer.TheVariants as number
-use Rattle.number.proofs.Answers.{number-answered, number-refused}
+use Rattle.refusal.specs.Answered.{answered}
+use Rattle.std.specs.Prelude.{Result, Ok, Err}
+use Rattle.refusal.proofs.Answered.{Answered, answered-got, answered-refused}
 use Rattle.number.proofs.Numbers.{refused-form}
 use Rattle.levels.proofs.Gots.{after-zero, after-after}
 use Rattle.record.specs.Record.{Record, place_head, skip_record}
@@ -27,11 +27,13 @@ use Rattle.record.specs.Parse.{parse_motion, parse_record}
 use Rattle.record.specs.declared.Head.{Head}
 use Rattle.levels.proofs.Turns.{when_true, when_false}
 use Rattle.record.proofs.Records.{all_three}
-use Rattle.transcript.specs.InnerParsing.{place_answer, Parsing}
+use Rattle.refusal.proofs.Lists.{mapped}
+use Rattle.transcript.specs.InnerParsing.{start_of, place_answer, Parsing}
 use Rattle.transcript.specs.InnerPlace.{parse_place}
-use Rattle.transcript.specs.declared.parse.ParseAnswer.{ParseAnswer}
-use Rattle.transcript.specs.declared.parse.PlaceAnswer.{PlaceAnswer}
-use Rattle.transcript.specs.declared.parse.PlaceAnswer.TheVariants.{Skip, Coded, Refused}
+use Rattle.refusal.specs.declared.Refusal.{Refusal}
+use Rattle.transcript.specs.declared.parse.RecordStart.{RecordStart}
+use Rattle.transcript.specs.declared.parse.RecordStart.TheVariants.{Skip, Coded}
+use Rattle.std.specs.Prelude.{Result, Ok, Err}
 use Rattle.transcript.proofs.Parsings.{parsing-on}
 
 -- ---- three parts one after another
@@ -106,65 +108,63 @@ module _ (cols rows : ℕ) where
 
 -- ---- column, row and mode, read one after another
 answer-on : (at n : ℕ) (g : Got Head) → place_answer at (after n g) ≡ place_answer (at + n) g
-unfolding place_answer
-answer-on at n (got h m) = ap (λ (k : ℕ). when eqb h.mode 0 then Skip h.column h.row k else Coded h k) (sym (add_assoc at n m))
+answer-on at n (got h m) = ap (λ (k : ℕ). Ok (start_of h, k)) (sym (add_assoc at n m))
 answer-on at n (refused r) = refl
 
 module _ (at : ℕ) (s : List ℕ) (k : ℕ → List ℕ → Got Head) where
-  number-then : (v next : ℕ) → number.Number v next ≡ number_answer at (read_number (drop at s)) → place_answer next (k v (drop next s)) ≡ place_answer at (and_then (read_number (drop at s)) (drop at s) k)
+  number-then : (v next : ℕ) → Ok (v, next) ≡ answered at (read_number (drop at s)) → place_answer next (k v (drop next s)) ≡ place_answer at (and_then (read_number (drop at s)) (drop at s) k)
   number-then v next e =
-      let a = number-answered at (read_number (drop at s)) v next e in
-      sym (ap (λ (g : Got ℕ). place_answer at (and_then g (drop at s) k)) a.1 ∙ answer-on at a.0 (k v (drop a.0 (drop at s)))
-      ∙ ap (λ (u : List ℕ). place_answer (at + a.0) (k v u)) (drop-drop a.0 at s) ∙ ap (λ (i : ℕ). place_answer i (k v (drop i s))) (sym a.2))
+      let a = answered-got at (read_number (drop at s)) v next e in
+      sym (ap (λ (g : Got ℕ). place_answer at (and_then g (drop at s) k)) a.is ∙ answer-on at a.taken (k v (drop a.taken (drop at s)))
+      ∙ ap (λ (u : List ℕ). place_answer (at + a.taken) (k v u)) (drop-drop a.taken at s) ∙ ap (λ (i : ℕ). place_answer i (k v (drop i s))) (sym a.moved))
 
   -- what is no number is refused as 14
-  no_number : (r : Refusal) → number.Refused r ≡ number_answer at (read_number (drop at s)) → Refused NumberForm ≡ place_answer at (and_then (read_number (drop at s)) (drop at s) k)
-  unfolding place_answer
+  no_number : (r : Refusal) → Err r ≡ answered at (read_number (drop at s)) → Err NumberForm ≡ place_answer at (and_then (read_number (drop at s)) (drop at s) k)
   no_number r e =
-      let f = number-refused at (read_number (drop at s)) r e in
+      let f = answered-refused at (read_number (drop at s)) r e in
       sym (ap (λ (g : Got ℕ). place_answer at (and_then g (drop at s) k)) (f ∙ ap refused (refused-form (drop at s) r f)))
 
 module _ (cols rows : ℕ) (s : List ℕ) (at : ℕ) where
-  abbrev Whole : PlaceAnswer → Type 0
+  abbrev Whole : Result (RecordStart × ℕ) Refusal → Type 0
   Whole answer = answer ≡ place_answer at (parse_place cols rows (drop at s))
 
-  pub no-column : (r : Refusal) → number.Refused r ≡ number_answer at (read_number (drop at s)) → Refused NumberForm ≡ place_answer at (parse_place cols rows (drop at s))
+  pub no-column : (r : Refusal) → Err r ≡ answered at (read_number (drop at s)) → Err NumberForm ≡ place_answer at (parse_place cols rows (drop at s))
   unfolding parse_place
   no-column r e = no_number at s (behind_column cols rows) r e
 
-  module _ (column p : ℕ) (e : number.Number column p ≡ number_answer at (read_number (drop at s))) where
-    with-column : (answer : PlaceAnswer) → answer ≡ place_answer p (behind_column cols rows column (drop p s)) → Whole answer
+  module _ (column p : ℕ) (e : Ok (column, p) ≡ answered at (read_number (drop at s))) where
+    with-column : (answer : Result (RecordStart × ℕ) Refusal) → answer ≡ place_answer p (behind_column cols rows column (drop p s)) → Whole answer
     unfolding parse_place
     with-column answer k = k ∙ number-then at s (behind_column cols rows) column p e
 
-    pub no_row : (r : Refusal) → number.Refused r ≡ number_answer p (read_number (drop p s)) → Whole (Refused NumberForm)
-    no_row r f = with-column (Refused NumberForm) (no_number p s (behind_row cols rows column) r f)
+    pub no_row : (r : Refusal) → Err r ≡ answered p (read_number (drop p s)) → Whole (Err NumberForm)
+    no_row r f = with-column (Err NumberForm) (no_number p s (behind_row cols rows column) r f)
 
-    module _ (row q : ℕ) (f : number.Number row q ≡ number_answer p (read_number (drop p s))) where
-      with_row : (answer : PlaceAnswer) → answer ≡ place_answer q (behind_row cols rows column row (drop q s)) → Whole answer
+    module _ (row q : ℕ) (f : Ok (row, q) ≡ answered p (read_number (drop p s))) where
+      with_row : (answer : Result (RecordStart × ℕ) Refusal) → answer ≡ place_answer q (behind_row cols rows column row (drop q s)) → Whole answer
       with_row answer k = with-column answer (k ∙ number-then p s (behind_row cols rows column) row q f)
 
-      pub no_mode : (r : Refusal) → number.Refused r ≡ number_answer q (read_number (drop q s)) → Whole (Refused NumberForm)
-      no_mode r g = with_row (Refused NumberForm) (no_number q s (behind_mode cols rows column row) r g)
+      pub no_mode : (r : Refusal) → Err r ≡ answered q (read_number (drop q s)) → Whole (Err NumberForm)
+      no_mode r g = with_row (Err NumberForm) (no_number q s (behind_mode cols rows column row) r g)
 
-      module _ (mode next : ℕ) (g : number.Number mode next ≡ number_answer q (read_number (drop q s))) where
-        with_mode : (t : Bool) → judge cols rows column row mode ≡ t → (answer : PlaceAnswer) → answer ≡ place_answer next (when t then got (place_head column row mode) 0 else refused FieldRange) → Whole answer
+      module _ (mode next : ℕ) (g : Ok (mode, next) ≡ answered q (read_number (drop q s))) where
+        with_mode : (t : Bool) → judge cols rows column row mode ≡ t → (answer : Result (RecordStart × ℕ) Refusal) → answer ≡ place_answer next (when t then got (place_head column row mode) 0 else refused FieldRange) → Whole answer
         with_mode t i answer k =
             with_row answer (k ∙ ap (λ (b : Bool). place_answer next (when b then got (place_head column row mode) 0 else refused FieldRange)) (sym i)
             ∙ number-then q s (behind_mode cols rows column row) mode next g)
 
-        pub outside : judge cols rows column row mode ≡ false → Whole (Refused FieldRange)
-        unfolding place_answer when◌then◌else◌
-        outside t = with_mode false t (Refused FieldRange) refl
+        pub outside : judge cols rows column row mode ≡ false → Whole (Err FieldRange)
+        unfolding when◌then◌else◌
+        outside t = with_mode false t (Err FieldRange) refl
 
-        pub is-skip : judge cols rows column row mode ≡ true → mode ≡ 0 → Whole (Skip column row next)
-        unfolding place_answer when◌then◌else◌
-        is-skip t z = with_mode true t (Skip column row next) (rw (eq-eqb mode 0 z) (ap (Skip column row) (sym (add-zero next))))
+        pub is-skip : judge cols rows column row mode ≡ true → mode ≡ 0 → Whole (Ok (Skip column row, next))
+        unfolding start_of when◌then◌else◌
+        is-skip t z = with_mode true t (Ok (Skip column row, next)) (rw (eq-eqb mode 0 z) (ap (λ (k : ℕ). Ok (Skip column row, k)) (sym (add-zero next))))
 
-        pub is-coded : judge cols rows column row mode ≡ true → (mode ≡ 0 → ⊥) → (o : Head) → o ≡ place_head column row mode → Whole (Coded o next)
-        unfolding place_answer when◌then◌else◌
+        pub is-coded : judge cols rows column row mode ≡ true → (mode ≡ 0 → ⊥) → (o : Head) → o ≡ place_head column row mode → Whole (Ok (Coded o, next))
+        unfolding start_of when◌then◌else◌
         is-coded t z o i =
-            with_mode true t (Coded o next) (rw (ne_eqb mode 0 z) (ap (λ (x : Head). Coded x next) i ∙ ap (Coded (place_head column row mode)) (sym (add-zero next))))
+            with_mode true t (Ok (Coded o, next)) (rw (ne_eqb mode 0 z) (ap (λ (x : Head). Ok (Coded x, next)) i ∙ ap (λ (k : ℕ). Ok (Coded (place_head column row mode), k)) (sym (add-zero next))))
 
 -- ---- the record whose place was read
 -- where a skip is answered, and where another record is
@@ -175,34 +175,41 @@ record Placed (at : ℕ) (g : Got Head) (next : ℕ) (Of : Head → Type 0) : Ty
   moved : next ≡ at + taken
   of : Of head
 
-skip-placed : (at : ℕ) (g : Got Head) (column row next : ℕ) → Skip column row next ≡ place_answer at g → Placed at g next (λ h. (h.mode ≡ 0) × (column ≡ h.column) × (row ≡ h.row))
-unfolding place_answer when◌then◌else◌
-skip-placed at (refused r) column row next e = absurd (let z : ◌≡◌ {A = ℕ} 0 1 = cc in omega arith)
-skip-placed at (got h n) column row next e = go (eqb h.mode 0) refl (e)
+-- what stands there, and the place behind it
+start-placed : (at : ℕ) (g : Got Head) (start : RecordStart) (next : ℕ) → Ok (start, next) ≡ place_answer at g → Placed at g next (λ h. start ≡ start_of h)
+start-placed at g start next e = go (mapped start_of g start a.taken a.is)
   where
-    go : (t : Bool) → eqb h.mode 0 ≡ t → Skip column row next ≡ (when t then Skip h.column h.row (at + n) else Coded h (at + n)) → Placed at (got h n) next (λ h. (h.mode ≡ 0) × (column ≡ h.column) × (row ≡ h.row))
-    go true i f = record { head = h; taken = n; is = refl; moved = cc; of = (eqb-true h.mode 0 i, cc, cc) }
-    go false i f = absurd (let z : ◌≡◌ {A = ℕ} 0 1 = cc in omega arith)
+    a : Answered at (map_got start_of g) start next
+    a = answered-got at (map_got start_of g) start next e
 
-coded-placed : (at : ℕ) (g : Got Head) (h : Head) (next : ℕ) → Coded h next ≡ place_answer at g → Placed at g next (λ o. (o ≡ h) × (h.mode ≡ 0 → ⊥))
-unfolding place_answer when◌then◌else◌
-coded-placed at (refused r) h next e = absurd (let z : ◌≡◌ {A = ℕ} 0 1 = cc in omega arith)
-coded-placed at (got o n) h next e = go (eqb o.mode 0) refl e
+    go : ((h : Head) × (g ≡ got h a.taken) × (start_of h ≡ start)) → Placed at g next (λ h. start ≡ start_of h)
+    go m = record { head = m.0; taken = a.taken; is = m.1; moved = a.moved; of = sym m.2 }
+
+skip-placed : (at : ℕ) (g : Got Head) (column row next : ℕ) → Ok (Skip column row, next) ≡ place_answer at g → Placed at g next (λ h. (h.mode ≡ 0) × (column ≡ h.column) × (row ≡ h.row))
+unfolding start_of when◌then◌else◌
+skip-placed at g column row next e =
+    let p = start-placed at g (Skip column row) next e in
+    record { head = p.head; taken = p.taken; is = p.is; moved = p.moved; of = go p.head (eqb p.head.mode 0) refl p.of }
   where
-    go : (t : Bool) → eqb o.mode 0 ≡ t → Coded h next ≡ (when t then Skip o.column o.row (at + n) else Coded o (at + n)) → Placed at (got o n) next (λ o. (o ≡ h) × (h.mode ≡ 0 → ⊥))
-    go true i f = absurd (let z : ◌≡◌ {A = ℕ} 0 1 = cc in omega arith)
-    go false i f =
+    go : (h : Head) (t : Bool) → eqb h.mode 0 ≡ t → Skip column row ≡ (when t then Skip h.column h.row else Coded h) → (h.mode ≡ 0) × (column ≡ h.column) × (row ≡ h.row)
+    go h true i f = (eqb-true h.mode 0 i, cc, cc)
+    go h false i f = absurd (let z : ◌≡◌ {A = ℕ} 0 1 = cc in omega arith)
+
+coded-placed : (at : ℕ) (g : Got Head) (h : Head) (next : ℕ) → Ok (Coded h, next) ≡ place_answer at g → Placed at g next (λ o. (o ≡ h) × (h.mode ≡ 0 → ⊥))
+unfolding start_of when◌then◌else◌
+coded-placed at g h next e =
+    let p = start-placed at g (Coded h) next e in
+    record { head = p.head; taken = p.taken; is = p.is; moved = p.moved; of = go p.head (eqb p.head.mode 0) refl p.of }
+  where
+    go : (o : Head) (t : Bool) → eqb o.mode 0 ≡ t → Coded h ≡ (when t then Skip o.column o.row else Coded o) → (o ≡ h) × (h.mode ≡ 0 → ⊥)
+    go o true i f = absurd (let z : ◌≡◌ {A = ℕ} 0 1 = cc in omega arith)
+    go o false i f =
         let k : o ≡ h = cc in
-        record { head = o; taken = n; is = refl; moved = cc; of = (k, λ z. absurd (let x = sym i ∙ eq-eqb o.mode 0 (ap (λ (y : Head). y.mode) k ∙ z) in let w : ◌≡◌ {A = ℕ} 0 1 = cc in omega arith)) }
+        (k, λ z. absurd (let x = sym i ∙ eq-eqb o.mode 0 (ap (λ (y : Head). y.mode) k ∙ z) in let w : ◌≡◌ {A = ℕ} 0 1 = cc in omega arith))
 
-not-placed : (at : ℕ) (g : Got Head) (r : Refusal) → Refused r ≡ place_answer at g → g ≡ refused r
-unfolding place_answer when◌then◌else◌
+not-placed : (at : ℕ) (g : Got Head) (r : Refusal) → Err r ≡ place_answer at g → g ≡ refused r
 not-placed at (refused q) r e = ap refused (cc)
-not-placed at (got h n) r e = go (eqb h.mode 0) e
-  where
-    go : (t : Bool) → Refused r ≡ (when t then Skip h.column h.row (at + n) else Coded h (at + n)) → got h n ≡ refused r
-    go true f = absurd (let z : ◌≡◌ {A = ℕ} 0 1 = cc in omega arith)
-    go false f = absurd (let z : ◌≡◌ {A = ℕ} 0 1 = cc in omega arith)
+not-placed at (got h n) r e = absurd (let z : ◌≡◌ {A = ℕ} 0 1 = cc in omega arith)
 
 -- a skip, as the definition of a record has it
 pub record SkipRead (cols rows : ℕ) (s : List ℕ) (at column row next : ℕ) : Type 0 where
@@ -226,10 +233,10 @@ module _ (cols rows : ℕ) (s : List ℕ) (at : ℕ) where
       record-parts cols rows (drop at s) ∙ ap (λ (g : Got Head). and_then g (drop at s) parse_rest) e ∙ ap (λ (u : List ℕ). after n (parse_rest h u)) (drop-drop n at s)
 
   -- A RECORD IS WHAT THE ANSWER ABOUT ITS PLACE SAYS
-  pub not-read : (r : Refusal) → Refused r ≡ place_answer at (parse_place cols rows (drop at s)) → parse_record cols rows (drop at s) ≡ refused r
+  pub not-read : (r : Refusal) → Err r ≡ place_answer at (parse_place cols rows (drop at s)) → parse_record cols rows (drop at s) ≡ refused r
   not-read r e = record-parts cols rows (drop at s) ∙ ap (λ (g : Got Head). and_then g (drop at s) parse_rest) (not-placed at (parse_place cols rows (drop at s)) r e)
 
-  pub skip_read : (column row next : ℕ) → Skip column row next ≡ place_answer at (parse_place cols rows (drop at s)) → SkipRead cols rows s at column row next
+  pub skip_read : (column row next : ℕ) → Ok (Skip column row, next) ≡ place_answer at (parse_place cols rows (drop at s)) → SkipRead cols rows s at column row next
   unfolding parse_rest
   skip_read column row next e =
       let p = skip-placed at (parse_place cols rows (drop at s)) column row next e in
@@ -244,7 +251,7 @@ module _ (cols rows : ℕ) (s : List ℕ) (at : ℕ) where
         down = omega (arith, r.row, p.of.2);
       }
 
-  pub coded-read : (h : Head) (next : ℕ) → Coded h next ≡ place_answer at (parse_place cols rows (drop at s)) → CodedRead cols rows s at h next
+  pub coded-read : (h : Head) (next : ℕ) → Ok (Coded h, next) ≡ place_answer at (parse_place cols rows (drop at s)) → CodedRead cols rows s at h next
   unfolding parse_rest
   coded-read h next e =
       let p = coded-placed at (parse_place cols rows (drop at s)) h next e in
@@ -265,6 +272,6 @@ module _ (cols rows : ℕ) (s : List ℕ) (at : ℕ) where
       some (suc n) z = omega arith
 
   -- what reading the rest of it answers and leaves is the record's
-  pub coded-parsed : (h : Head) (next : ℕ) → Coded h next ≡ place_answer at (parse_place cols rows (drop at s)) → (answer : ParseAnswer) (vs ls : List ℤ) → Parsing next (parse_motion h (drop next s)) answer vs ls
+  pub coded-parsed : (h : Head) (next : ℕ) → Ok (Coded h, next) ≡ place_answer at (parse_place cols rows (drop at s)) → (answer : Result (Head × ℕ) Refusal) (vs ls : List ℤ) → Parsing next (parse_motion h (drop next s)) answer vs ls
       → Parsing at (parse_record cols rows (drop at s)) answer vs ls
   coded-parsed h next e answer vs ls p = let c = coded-read h next e in rw c.is (parsing-on at c.taken next (parse_motion h (drop next s)) answer vs ls c.moved p)

@@ -16,15 +16,14 @@ use Rattle.refusal.specs.Got.{Got, got, refused, after, map_got}
 use Rattle.refusal.specs.declared.Refusal.{Refusal}
 use Rattle.refusal.specs.declared.Refusal.TheVariants.{FieldRange}
 use Rattle.number.specs.Number.{read_number}
-use Rattle.number.specs.InnerNumber.{number_answer}
+use Rattle.refusal.specs.Answered.{answered}
 use Rattle.number.specs.SignedNumber.{read_signed}
-use Rattle.number.specs.InnerSignedNumber.{signed_number_answer}
-use Rattle.number.specs.declared.NumberAnswer.TheVariants.{Number, Refused}
-use Rattle.number.specs.declared.SignedNumberAnswer.TheVariants as signed
-use Rattle.number.proofs.Answers.{number-answered, number-refused, signed-answered, signed-refused}
+use Rattle.refusal.specs.Answered.{answered}
+use Rattle.std.specs.Prelude.{Result, Ok, Err}
+use Rattle.refusal.proofs.Answered.{answered-got, answered-refused}
 use Rattle.levels.specs.Levels.{zeros}
-use Rattle.levels.specs.declared.svq3_coeff.ListAnswer.{ListAnswer}
-use Rattle.levels.specs.declared.svq3_coeff.ListAnswer.TheVariants as list
+use Rattle.refusal.specs.declared.Refusal.{Refusal}
+use Rattle.std.specs.Prelude.{Result, Ok, Err}
 use Rattle.levels.proofs.Gots.{after-zero, after-after, map-after, map-map}
 use Rattle.levels.specs.Items.{item_start, item_count, item_place}
 use Rattle.record.specs.Parse.{field, read_signeds, parse_item}
@@ -40,19 +39,19 @@ module _ (at most : ℕ) (s : List ℕ) where
   unfolding field
   read-on v n e = rw e
 
-  pub field-within : (v next : ℕ) → Number v next ≡ number_answer at (read_number s) → v ≤ most → Number v next ≡ number_answer at (field most s)
+  pub field-within : (v next : ℕ) → Ok (v, next) ≡ answered at (read_number s) → v ≤ most → Ok (v, next) ≡ answered at (field most s)
   field-within v next e h =
-      let a = number-answered at (read_number s) v next e in
-      ap (Number v) (a.2 ∙ ap (λ (n : ℕ). at + n) (sym (add-zero a.0))) ∙ sym (ap (number_answer at) (read-on v a.0 a.1 ∙ ap (after a.0) (when_true (leb v most) (got v 0) (refused FieldRange) (le-leb v most h))))
+      let a = answered-got at (read_number s) v next e in
+      ap (λ (n : ℕ). Ok (v, n)) (a.moved ∙ ap (λ (n : ℕ). at + n) (sym (add-zero a.taken))) ∙ sym (ap (answered at) (read-on v a.taken a.is ∙ ap (after a.taken) (when_true (leb v most) (got v 0) (refused FieldRange) (le-leb v most h))))
 
-  pub field-beyond : (v next : ℕ) → Number v next ≡ number_answer at (read_number s) → most < v → Refused FieldRange ≡ number_answer at (field most s)
+  pub field-beyond : (v next : ℕ) → Ok (v, next) ≡ answered at (read_number s) → most < v → Err FieldRange ≡ answered at (field most s)
   field-beyond v next e h =
-      let a = number-answered at (read_number s) v next e in
-      sym (ap (number_answer at) (read-on v a.0 a.1 ∙ ap (after a.0) (when_false (leb v most) (got v 0) (refused FieldRange) (lt-leb v most h))))
+      let a = answered-got at (read_number s) v next e in
+      sym (ap (answered at) (read-on v a.taken a.is ∙ ap (after a.taken) (when_false (leb v most) (got v 0) (refused FieldRange) (lt-leb v most h))))
 
-  pub field-refused : (r : Refusal) → Refused r ≡ number_answer at (read_number s) → Refused r ≡ number_answer at (field most s)
+  pub field-refused : (r : Refusal) → Err r ≡ answered at (read_number s) → Err r ≡ answered at (field most s)
   unfolding field
-  field-refused r e = rw (number-refused at (read_number s) r e)
+  field-refused r e = rw (answered-refused at (read_number s) r e)
 
 -- ---- signed numbers, stored from `first` on: i of them are, and those behind them are still to be read
 module _ (out₀ : List ℤ) (first count : ℕ) (s : List ℕ) (at : ℕ) where
@@ -80,30 +79,30 @@ module _ {out₀ : List ℤ} {first count : ℕ} {s : List ℕ} {at i p : ℕ} {
       (map-after (sets out (first + i)) n (map_got (λ zs. z ∷ zs) (read_signeds (count - (i + 1)) (drop n (drop p s))))
       ∙ ap (after n) (map-map (sets out (first + i)) (λ zs. z ∷ zs) (sets (set out (first + i) z) (suc (first + i))) (read_signeds (count - (i + 1)) (drop n (drop p s))) (λ zs. refl)))
 
-  taken : (z : ℤ) (next : ℕ) → i < count → signed.SignedNumber z next ≡ signed_number_answer p (read_signed (drop p s)) → Taking out₀ first count s at (i + 1) next (set out (first + i) z)
+  taken : (z : ℤ) (next : ℕ) → i < count → Ok (z, next) ≡ answered p (read_signed (drop p s)) → Taking out₀ first count s at (i + 1) next (set out (first + i) z)
   taken z next h e =
-      let a = signed-answered p (read_signed (drop p s)) z next e in
+      let a = answered-got p (read_signed (drop p s)) z next e in
       let rest : List ℕ → Got (List ℤ) = λ u. map_got (sets (set out (first + i) z) (first + (i + 1))) (read_signeds (count - (i + 1)) u) in
-      let far : p - at + a.0 ≡ next - at = omega (arith, a.2, t.on) in
-      let there : drop a.0 (drop p s) ≡ drop next s = drop-drop a.0 p s ∙ ap (λ (n : ℕ). drop n s) (sym a.2) in
+      let far : p - at + a.taken ≡ next - at = omega (arith, a.moved, t.on) in
+      let there : drop a.taken (drop p s) ≡ drop next s = drop-drop a.taken p s ∙ ap (λ (n : ℕ). drop n s) (sym a.moved) in
       record {
-        is = t.is ∙ ap (after (p - at)) (next-number h z a.0 a.1) ∙ after-after (p - at) a.0 (rest (drop a.0 (drop p s)))
-            ∙ ap (λ (n : ℕ). after n (rest (drop a.0 (drop p s)))) far ∙ ap (λ (u : List ℕ). after (next - at) (rest u)) there;
-        on = omega (arith, a.2, t.on);
+        is = t.is ∙ ap (after (p - at)) (next-number h z a.taken a.is) ∙ after-after (p - at) a.taken (rest (drop a.taken (drop p s)))
+            ∙ ap (λ (n : ℕ). after n (rest (drop a.taken (drop p s)))) far ∙ ap (λ (u : List ℕ). after (next - at) (rest u)) there;
+        on = omega (arith, a.moved, t.on);
         some = omega arith;
         same = length-set out (first + i) z ∙ t.same;
       }
 
-  pub takes : (v z : ℤ) (next : ℕ) → v ≡ z → i < count → signed.SignedNumber z next ≡ signed_number_answer p (read_signed (drop p s)) → Taking out₀ first count s at (i + 1) next (set out (first + i) v)
+  pub takes : (v z : ℤ) (next : ℕ) → v ≡ z → i < count → Ok (z, next) ≡ answered p (read_signed (drop p s)) → Taking out₀ first count s at (i + 1) next (set out (first + i) v)
   takes v z next w h e = rw w (taken z next h e)
 
-  pub take-stops : (r : Refusal) (left : List ℤ) → i < count → signed.Refused r ≡ signed_number_answer p (read_signed (drop p s)) → Left at (map_got (sets out₀ first) (read_signeds count (drop at s))) (list.Refused r) left
+  pub take-stops : (r : Refusal) (left : List ℤ) → i < count → Err r ≡ answered p (read_signed (drop p s)) → Left at (map_got (sets out₀ first) (read_signeds count (drop at s))) (Err r) left
   unfolding read_signeds
   take-stops r left h e =
       let c : count - i ≡ suc (count - (i + 1)) = omega arith in
-      left-refused at (map_got (sets out₀ first) (read_signeds count (drop at s))) r left (t.is ∙ rw (c, signed-refused p (read_signed (drop p s)) r e))
+      left-refused at (map_got (sets out₀ first) (read_signeds count (drop at s))) r left (t.is ∙ rw (c, answered-refused p (read_signed (drop p s)) r e))
 
-  pub take_ends : count ≤ i → Left at (map_got (sets out₀ first) (read_signeds count (drop at s))) (list.End p) out
+  pub take_ends : count ≤ i → Left at (map_got (sets out₀ first) (read_signeds count (drop at s))) (Ok p) out
   unfolding read_signeds
   take_ends h =
       let c : count - i ≡ 0 = omega arith in
@@ -128,7 +127,7 @@ module _ (i at : ℕ) (ls : List ℤ) (s : List ℕ) where
           ap (λ (x : List ℤ). got x n) (placed ls (item_place i) (item_start i) zs (start-most i) (omega (arith, l, start-in i)))
       go (refused r) e = refl
 
-  module _ (place start count : ℕ) (answer : ListAnswer) (left : List ℤ) (p : place ≡ item_place i) (b : start ≡ item_start i) (c : count ≡ item_count i) where
+  module _ (place start count : ℕ) (answer : Result ℕ Refusal) (left : List ℤ) (p : place ≡ item_place i) (b : start ≡ item_start i) (c : count ≡ item_count i) where
     -- its numbers stored one after another
     pub item-stored : Left at (map_got (sets (set ls place (pos 0)) (place + start)) (read_signeds (count - start) s)) answer left → Left at (map_got (sets ls (item_place i)) (parse_item i s)) answer left
     item-stored l = rw (← parsed, ← p, ← b, ← c) l

@@ -15,7 +15,7 @@ use Rattle.refusal.specs.Got.{got, map_got}
 use Rattle.number.specs.SignedNumber.{received, read_signed}
 use Rattle.number.proofs.Numbers.{lt-or-le, read-last}
 use Rattle.levels.specs.Levels.{zeros}
-use Rattle.levels.specs.declared.svq3_coeff.ListAnswer.TheVariants as list
+use Rattle.std.specs.Prelude.{Result, Ok, Err}
 use Rattle.record.specs.Parse.{read_signeds}
 use Rattle.levels.specs.InnerAnswers.{Left}
 use Rattle.levels.proofs.ItemAnswers.{left_end}
@@ -129,7 +129,7 @@ module _ (s : List ℕ) (at ahead : ℕ) (e : short_at s at ahead ≡ true) wher
         get_or-map received (take (16 - ahead) (drop at s)) k 0 ∙ ap received (behind k j) ∙ sym (get_or-drop ahead t k (pos 0) ∙ r.each (ahead + k) (omega arith)))
 
     pub short-left : (ls : List ℤ) (place : ℕ) (t left : List ℤ) → Received s (at - ahead) 16 t → left ≡ sets ls place (zeros ahead ++ drop ahead t)
-        → Left at (map_got (sets ls place) (map_got (λ zs. zeros ahead ++ zs) (read_signeds (16 - ahead) (drop at s)))) (list.End (at - ahead + 16)) left
+        → Left at (map_got (sets ls place) (map_got (λ zs. zeros ahead ++ zs) (read_signeds (16 - ahead) (drop at s)))) (Ok (at - ahead + 16)) left
     short-left ls place t left r w =
         left_end at (map_got (sets ls place) (map_got (λ zs. zeros ahead ++ zs) (read_signeds (16 - ahead) (drop at s)))) (at - ahead + 16) (16 - ahead) left
         (rw short-read (ap (λ (x : List ℤ). got x (16 - ahead)) (ap (λ (x : List ℤ). sets ls place (zeros ahead ++ x)) (received_is t r) ∙ sym w)))

@@ -5,4 +5,3 @@ pub mod InnerReceived
 pub mod InnerPlace
 pub mod Records
 pub mod Check
-pub mod InnerCheck

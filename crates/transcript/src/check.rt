@@ -3,78 +3,59 @@ ghost use Rattle.std.specs.Prelude.{◌≡◌, true, ◌≤◌, drop};
 ghost use Rattle.state.specs.Questions.{grid_right};
 ghost use Rattle.record.specs.Parse.{parse_motion, parse_record};
 ghost use Rattle.transcript.specs.Records.{records};
-ghost use Rattle.transcript.specs.InnerCheck.{record_answer};
+ghost use Rattle.refusal.specs.Answered.{reached};
 ghost use Rattle.transcript.specs.Check.{check_answer, checked};
 
-use crate::parse::{ParseAnswer, PlaceAnswer, parse_motion, parse_place};
+use crate::parse::{RecordStart, parse_motion, parse_place};
 use picture::Grid;
 use record::Head;
 use refusal::Refusal;
 use state::grid_right;
 
-#[derive(Clone, Copy)]
-pub enum RecordAnswer {
-    // the place behind a record
-    Record(usize),
-    Refused(Refusal),
-}
-
-#[derive(Clone, Copy)]
-pub enum CheckAnswer {
-    // the number of records
-    Records(usize),
-    Refused(Refusal),
-}
-
 // What follows the mode of a record that is no skip.
-fn check_coded(bytes: &[u8], at: usize, head: Head) -> RecordAnswer
+fn check_coded(bytes: &[u8], at: usize, head: Head) -> Result<usize, Refusal>
     requires { head.mode ≤ 7 }
-    ensures { result ≡ record_answer at (parse_motion head (drop at bytes.now)) }
+    ensures { result ≡ reached at (parse_motion head (drop at bytes.now)) }
 {
     let mut vectors = [0i32; 32];
     let mut levels = [0i32; 392];
-    match parse_motion(&mut vectors, &mut levels, bytes, at, head) {
-        ParseAnswer::Parsed(_, next) => RecordAnswer::Record(next),
-        ParseAnswer::Refused(why) => RecordAnswer::Refused(why),
-    }
+    let (_, next) = parse_motion(&mut vectors, &mut levels, bytes, at, head)?;
+    Ok(next)
 }
 
 // The record at a place, which may lie anywhere, also past the end.
-pub fn check_record(bytes: &[u8], at: usize, grid: Grid) -> RecordAnswer
-    ensures { result ≡ record_answer at (parse_record grid.cols grid.rows (drop at bytes.now)) }
+pub fn check_record(bytes: &[u8], at: usize, grid: Grid) -> Result<usize, Refusal>
+    ensures { result ≡ reached at (parse_record grid.cols grid.rows (drop at bytes.now)) }
 {
-    match parse_place(bytes, at, grid) {
-        PlaceAnswer::Skip(_, _, next) => RecordAnswer::Record(next),
-        PlaceAnswer::Coded(head, next) => check_coded(bytes, next, head),
-        PlaceAnswer::Refused(why) => RecordAnswer::Refused(why),
+    let (start, next) = parse_place(bytes, at, grid)?;
+    match start {
+        RecordStart::Skip(_, _) => Ok(next),
+        RecordStart::Coded(head) => check_coded(bytes, next, head),
     }
 }
 
-// The records of a grid that is right.
-pub fn check_records(bytes: &[u8], grid: Grid) -> CheckAnswer
+// The number of records, in a grid that is right.
+pub fn check_records(bytes: &[u8], grid: Grid) -> Result<usize, Refusal>
     requires { grid_right grid.cols grid.rows ≡ true }
     ensures { result ≡ check_answer (records grid.cols grid.rows bytes.now) }
 {
     let mut at = 0;
     let mut count: usize = 0;
     while at < bytes.len() {
-        match check_record(bytes, at, grid) {
-            RecordAnswer::Record(next) => {
-                at = next;
-                count += 1;
-            }
-            RecordAnswer::Refused(why) => return CheckAnswer::Refused(why),
-        }
+        at = check_record(bytes, at, grid)?;
+        count += 1;
     }
-    CheckAnswer::Records(count)
+    Ok(count)
 }
 
-pub fn check_transcript(bytes: &[u8], cols: usize, rows: usize) -> CheckAnswer
+// The number of records.
+pub fn check_transcript(bytes: &[u8], cols: usize, rows: usize) -> Result<usize, Refusal>
     ensures { result ≡ checked cols rows bytes.now }
 {
     let grid = Grid { cols, rows };
     if grid_right(grid) {
-        return check_records(bytes, grid);
+        check_records(bytes, grid)
+    } else {
+        Err(Refusal::GridSize)
     }
-    CheckAnswer::Refused(Refusal::GridSize)
 }

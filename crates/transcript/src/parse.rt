@@ -2,7 +2,7 @@
 ghost use Rattle.std.specs.Prelude.{◌≡◌, List, ◌++◌, ◌+◌, ◌≤◌, ◌<◌, ℤ, length, drop};
 ghost use Rattle.std.proofs.lemmas.List.Edits.{sets};
 ghost use Rattle.refusal.specs.Got.{map_got};
-ghost use Rattle.number.specs.InnerNumber.{number_answer};
+ghost use Rattle.refusal.specs.Answered.{answered};
 ghost use Rattle.record.specs.Record.{no_vectors};
 ghost use Rattle.levels.specs.Levels.{zeros};
 ghost use Rattle.levels.specs.Items.{no_levels, item_start, item_count, item_place};
@@ -13,66 +13,49 @@ ghost use Rattle.transcript.specs.InnerPlace.{parse_place};
 ghost use Rattle.transcript.specs.InnerReceived.{short_received, short_at, Received};
 
 use levels::items::{group_end, item_coded, item_place};
-use levels::svq3_coeff::ListAnswer;
-use number::{NumberAnswer, SignedNumberAnswer, read_number, read_signed_number, received_of};
+use number::{read_number, read_signed_number, received_of};
 use picture::Grid;
 use record::{Head, place_head, with_motion, with_residual};
 use refusal::Refusal;
 use vectors::svq3_mb::num_motion_vectors;
 
-// What stands at the start of a record: its place and mode. The last number of an answer is the place behind the mode.
+// What stands at the start of a record: its place and mode.
 #[derive(Clone, Copy)]
-pub enum PlaceAnswer {
+pub enum RecordStart {
     // column and row of a skip, which has nothing more
-    Skip(u32, u32, usize),
+    Skip(u32, u32),
     // the head of another record, filled as far as its mode
-    Coded(Head, usize),
-    Refused(Refusal),
-}
-
-#[derive(Clone, Copy)]
-pub enum ParseAnswer {
-    // the numbers of a record, and the place after it
-    Parsed(Head, usize),
-    Refused(Refusal),
+    Coded(Head),
 }
 
 // A number that is at most `most`.
-fn read_field(bytes: &[u8], at: usize, most: u32) -> NumberAnswer
-    ensures { result ≡ number_answer at (field most (drop at bytes.now)) }
+fn read_field(bytes: &[u8], at: usize, most: u32) -> Result<(u32, usize), Refusal>
+    ensures { result ≡ answered at (field most (drop at bytes.now)) }
 {
-    match read_number(bytes, at) {
-        NumberAnswer::Number(v, next) => {
-            if v <= most {
-                NumberAnswer::Number(v, next)
-            } else {
-                NumberAnswer::Refused(Refusal::FieldRange)
-            }
-        }
-        NumberAnswer::Refused(r) => NumberAnswer::Refused(r),
+    let (v, next) = read_number(bytes, at)?;
+    if v <= most {
+        Ok((v, next))
+    } else {
+        Err(Refusal::FieldRange)
     }
 }
 
 // Column, row and mode of the record at a place, which may lie anywhere, also past the end.
-pub fn parse_place(bytes: &[u8], at: usize, grid: Grid) -> PlaceAnswer
+pub fn parse_place(bytes: &[u8], at: usize, grid: Grid) -> Result<(RecordStart, usize), Refusal>
     ensures { result ≡ place_answer at (parse_place grid.cols grid.rows (drop at bytes.now)) }
 {
-    let NumberAnswer::Number(column, p) = read_number(bytes, at) else {
-        return PlaceAnswer::Refused(Refusal::NumberForm);
-    };
-    let NumberAnswer::Number(row, q) = read_number(bytes, p) else {
-        return PlaceAnswer::Refused(Refusal::NumberForm);
-    };
-    let NumberAnswer::Number(mode, next) = read_number(bytes, q) else {
-        return PlaceAnswer::Refused(Refusal::NumberForm);
-    };
+    let (column, p) = read_number(bytes, at)?;
+    let (row, q) = read_number(bytes, p)?;
+    let (mode, next) = read_number(bytes, q)?;
     if ((column as usize) < grid.cols) & ((row as usize) < grid.rows) & (mode <= 7) {
         if mode == 0 {
-            return PlaceAnswer::Skip(column, row, next);
+            Ok((RecordStart::Skip(column, row), next))
+        } else {
+            Ok((RecordStart::Coded(place_head(column, row, mode)), next))
         }
-        return PlaceAnswer::Coded(place_head(column, row, mode), next);
+    } else {
+        Err(Refusal::FieldRange)
     }
-    PlaceAnswer::Refused(Refusal::FieldRange)
 }
 
 // `count` signed numbers, stored from the place `first` on.
@@ -82,29 +65,17 @@ fn read_signed_numbers(
     at: usize,
     first: usize,
     count: usize,
-) -> ListAnswer
+) -> Result<usize, Refusal>
     requires { first + count ≤ length out.old }
     ensures { Left at (map_got (sets out.old first) (read_signeds count (drop at bytes.now))) result out.new }
 {
     let mut p = at;
-    let mut i = 0;
-    while i < count {
-        match read_signed_number(bytes, p) {
-            SignedNumberAnswer::SignedNumber(v, next) => {
-                out[first + i] = v;
-                p = next;
-                i += 1;
-            }
-            SignedNumberAnswer::Refused(r) => return ListAnswer::Refused(r),
-        }
+    for i in 0..count {
+        let (v, next) = read_signed_number(bytes, p)?;
+        out[first + i] = v;
+        p = next;
     }
-    ListAnswer::End(p)
-}
-
-fn wide(x: u8) -> u32
-    ensures { result ≡ x }
-{
-    x as u32
+    Ok(p)
 }
 
 // Whether each of sixteen bytes is a short number: one byte by itself.
@@ -113,10 +84,8 @@ fn all_short(bytes: &[u8], at: usize) -> bool
     ensures { result ≡ short_received bytes.now at 16 }
 {
     let mut short = true;
-    let mut i = 0;
-    while i < 16 {
+    for i in 0..16 {
         short = short & (bytes[at + i] < 128);
-        i += 1;
     }
     short
 }
@@ -143,10 +112,8 @@ fn take_received(bytes: &[u8], at: usize) -> [i32; 16]
     ensures { Received bytes.now at 16 result }
 {
     let mut t = [0i32; 16];
-    let mut i = 0;
-    while i < 16 {
-        t[i] = received_of(wide(bytes[at + i]));
-        i += 1;
+    for i in 0..16 {
+        t[i] = received_of(bytes[at + i] as u32);
     }
     t
 }
@@ -156,11 +123,7 @@ fn store_received(out: &mut [i32], t: &[i32; 16], first: usize, start: usize)
     requires { (start ≤ 1) × (length t.now ≡ 16) × (first + 16 ≤ length out.old) }
     ensures { out.new ≡ sets out.old first (zeros start ++ drop start t.now) }
 {
-    let mut i = 0;
-    while i < 16 {
-        out[first + i] = t[i];
-        i += 1;
-    }
+    out[first..first + 16].copy_from_slice(t);
     if start == 1 {
         out[first] = 0;
     }
@@ -184,7 +147,7 @@ fn item_count(i: usize) -> usize
 }
 
 // List i, stored at its place. Most numbers are short: a list of sixteen places is then read at once, all bytes before a level is stored, as in picture's store_row. An AC list's place 0 is not sent, and the byte before the list is taken for it.
-fn parse_item(levels: &mut [i32], bytes: &[u8], at: usize, i: usize) -> ListAnswer
+fn parse_item(levels: &mut [i32], bytes: &[u8], at: usize, i: usize) -> Result<usize, Refusal>
     requires { (i < 26) × (length levels.old ≡ 392) }
     ensures { Left at (map_got (sets levels.old (item_place i)) (parse_item i (drop at bytes.now))) result levels.new }
 {
@@ -195,14 +158,14 @@ fn parse_item(levels: &mut [i32], bytes: &[u8], at: usize, i: usize) -> ListAnsw
         if short_at(bytes, at, start) {
             let t = take_received(bytes, at - start);
             store_received(levels, &t, place, start);
-            return ListAnswer::End(at - start + 16);
+            return Ok(at - start + 16);
         }
     }
     levels[place] = 0;
     read_signed_numbers(levels, bytes, at, place + start, count - start)
 }
 
-fn parse_items(levels: &mut [i32], bytes: &[u8], at: usize, pattern: u8) -> ListAnswer
+fn parse_items(levels: &mut [i32], bytes: &[u8], at: usize, pattern: u8) -> Result<usize, Refusal>
     requires { length levels.old ≡ 392 }
     ensures { Left at (parse_items 26 0 pattern levels.old (drop at bytes.now)) result levels.new }
 {
@@ -210,42 +173,29 @@ fn parse_items(levels: &mut [i32], bytes: &[u8], at: usize, pattern: u8) -> List
     let mut i = 0;
     while i < 26 {
         if item_coded(pattern, i) {
-            match parse_item(levels, bytes, p, i) {
-                ListAnswer::End(next) => {
-                    p = next;
-                    i += 1;
-                }
-                ListAnswer::Refused(r) => return ListAnswer::Refused(r),
-            }
+            p = parse_item(levels, bytes, p, i)?;
+            i += 1;
         } else {
             i = group_end(i);
         }
     }
-    ListAnswer::End(p)
+    Ok(p)
 }
 
 // Pattern, quantiser, levels.
-fn parse_residual(levels: &mut [i32], bytes: &[u8], at: usize, head: Head) -> ParseAnswer
+fn parse_residual(
+    levels: &mut [i32],
+    bytes: &[u8],
+    at: usize,
+    head: Head,
+) -> Result<(Head, usize), Refusal>
     requires { levels.old ≡ no_levels }
     ensures { (vs : List ℤ) → Parsing at (parse_residual head vs (drop at bytes.now)) result vs levels.new }
 {
-    match read_field(bytes, at, 47) {
-        NumberAnswer::Number(pattern, p) => match read_field(bytes, p, 31) {
-            NumberAnswer::Number(quantiser, q) => match parse_items(
-                levels,
-                bytes,
-                q,
-                pattern as u8,
-            ) {
-                ListAnswer::End(next) => {
-                    ParseAnswer::Parsed(with_residual(head, pattern, quantiser), next)
-                }
-                ListAnswer::Refused(r) => ParseAnswer::Refused(r),
-            },
-            NumberAnswer::Refused(r) => ParseAnswer::Refused(r),
-        },
-        NumberAnswer::Refused(r) => ParseAnswer::Refused(r),
-    }
+    let (pattern, p) = read_field(bytes, at, 47)?;
+    let (quantiser, q) = read_field(bytes, p, 31)?;
+    let next = parse_items(levels, bytes, q, pattern as u8)?;
+    Ok((with_residual(head, pattern, quantiser), next))
 }
 
 // What follows the mode of a record that is no skip, into slices of zeros: precision, clipped count, vectors, and the residual.
@@ -255,23 +205,13 @@ pub fn parse_motion(
     bytes: &[u8],
     at: usize,
     head: Head,
-) -> ParseAnswer
+) -> Result<(Head, usize), Refusal>
     requires { (vectors.old ≡ no_vectors) × (levels.old ≡ no_levels) × (head.mode ≤ 7) }
     ensures { Parsing at (parse_motion head (drop at bytes.now)) result vectors.new levels.new }
 {
     let used = 2 * num_motion_vectors(head.mode);
-    match read_field(bytes, at, 2) {
-        NumberAnswer::Number(precision, p) => match read_field(bytes, p, used as u32) {
-            NumberAnswer::Number(clipped, q) => match read_signed_numbers(
-                vectors, bytes, q, 0, used,
-            ) {
-                ListAnswer::End(next) => {
-                    parse_residual(levels, bytes, next, with_motion(head, precision, clipped))
-                }
-                ListAnswer::Refused(r) => ParseAnswer::Refused(r),
-            },
-            NumberAnswer::Refused(r) => ParseAnswer::Refused(r),
-        },
-        NumberAnswer::Refused(r) => ParseAnswer::Refused(r),
-    }
+    let (precision, p) = read_field(bytes, at, 2)?;
+    let (clipped, q) = read_field(bytes, p, used as u32)?;
+    let next = read_signed_numbers(vectors, bytes, q, 0, used)?;
+    parse_residual(levels, bytes, next, with_motion(head, precision, clipped))
 }

@@ -28,10 +28,8 @@ fn put_signed_numbers(
     ensures { Written out.old at (signed_numbers (take count (drop first numbers.now))) result out.new }
 {
     let mut p = at;
-    let mut i = 0;
-    while i < count {
+    for i in 0..count {
         p = put_signed_number(out, p, numbers[first + i]);
-        i += 1;
     }
     p
 }
@@ -57,11 +55,9 @@ fn take_held(numbers: &[i32], first: usize, count: usize) -> [u8; 16]
     ensures { Held numbers.now first count result }
 {
     let mut t = [0u8; 16];
-    let mut i = 0;
-    while i < count {
+    for i in 0..count {
         let v = numbers[first + i];
         t[i] = held_of(v);
-        i += 1;
     }
     t
 }
@@ -72,10 +68,8 @@ fn all_short(t: &[u8; 16], count: usize) -> bool
     ensures { result ≡ short_sent t.now count }
 {
     let mut short = true;
-    let mut i = 0;
-    while i < count {
+    for i in 0..count {
         short = short & (64 <= t[i]) & (t[i] < 192);
-        i += 1;
     }
     short
 }
@@ -84,10 +78,8 @@ fn put_short(out: &mut [u8], t: &[u8; 16], at: usize, count: usize)
     requires { (count ≤ 16) × (length t.now ≡ 16) × (at + count ≤ length out.old) }
     ensures { out.new ≡ sets out.old at (take count (map sent_short t.now)) }
 {
-    let mut i = 0;
-    while i < count {
+    for i in 0..count {
         out[at + i] = sent_short(t[i]);
-        i += 1;
     }
 }
 
@@ -110,10 +102,8 @@ fn put_blocks(out: &mut [u8], levels: &[i32], at: usize, place: usize) -> usize
     ensures { Written out.old at (side_bytes ResidualBook.NormalScan 0 4 place levels.now) result out.new }
 {
     let mut p = at;
-    let mut i = 0;
-    while i < 4 {
+    for i in 0..4 {
         p = put_list(out, levels, p, place + 16 * i, 16);
-        i += 1;
     }
     p
 }
@@ -124,10 +114,8 @@ fn put_ac(out: &mut [u8], levels: &[i32], at: usize) -> usize
     ensures { Written out.old at (side_bytes ResidualBook.NormalScan 1 8 264 levels.now) result out.new }
 {
     let mut p = at;
-    let mut i = 0;
-    while i < 8 {
+    for i in 0..8 {
         p = put_list(out, levels, p, 265 + 16 * i, 15);
-        i += 1;
     }
     p
 }
@@ -165,10 +153,8 @@ fn put_items(out: &mut [u8], levels: &[i32], at: usize, pattern: u8) -> usize
     ensures { Written out.old at (items_bytes 26 0 pattern levels.now) result out.new }
 {
     let mut p = at;
-    let mut q = 0;
-    while q < 4 {
+    for q in 0..4 {
         p = put_quadrant(out, levels, p, pattern, q);
-        q += 1;
     }
     put_chroma(out, levels, p, pattern)
 }

@@ -1,5 +1,6 @@
 -- `transcript::check::check_coded`: what `parse_motion` answers, without the numbers.
-use mathlib.Core.Path.{refl}
+use mathlib.Core.Path.{refl, ◌∙◌}
+use Rattle.refusal.proofs.Answered.{handed}
 use Rattle.record.specs.Record.{no_vectors}
 use Rattle.levels.specs.Items.{no_levels}
 use Rattle.transcript.proofs.Checks.{rest_read, rest-refused}
@@ -9,8 +10,8 @@ pub parse_motion-requires : goal.parse_motion-requires
 unfolding no_vectors no_levels
 parse_motion-requires c = (refl, refl, c.requires)
 
-pub returns-in-Parsed : goal.returns-in-Parsed
-returns-in-Parsed c = rest_read c.parse_motion.ensures _ _ c.in-Parsed.is
+pub returns-in_err-parse_motion : goal.returns-in_err-parse_motion
+returns-in_err-parse_motion c = handed _ _ c.from_residual.ensures ∙ rest-refused c.parse_motion.ensures _ c.in_err-parse_motion.was
 
-pub returns-in-Refused : goal.returns-in-Refused
-returns-in-Refused c = rest-refused c.parse_motion.ensures _ c.in-Refused.is
+pub returns : goal.returns
+returns c = rest_read c.parse_motion.ensures _ _ c.in_ok-parse_motion.was

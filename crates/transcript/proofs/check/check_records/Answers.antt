@@ -4,17 +4,18 @@ use Prim.Native.Nat.{ℕ, ◌+◌}
 use native.Mathlib.Omega.{arith}
 use lib.ListN.{drop}
 use Rattle.refusal.specs.Got.{got}
+use Rattle.refusal.proofs.Answered.{handed}
 use Rattle.refusal.proofs.Lists.{counting, count-end, count-stop, count-on}
 use Rattle.record.specs.Record.{Record}
 use Rattle.record.specs.Parse.{parse_record}
 use Rattle.transcript.proofs.Checks.{grid-takes, records-tally, record-read, not-record}
-use Rattle.transcript.proofs.check.check_records.Goals.{In-Record}
+use Rattle.transcript.proofs.check.check_records.Goals.{In_ok-at}
 use Rattle.transcript.proofs.check.check_records.Goals as goal
 
 -- what was read, of the definition
-found : (c : In-Record) → let a = c.args in
-    (r : Record) × (n : ℕ) × (parse_record a.grid.cols a.grid.rows (drop c.loop-at.at a.bytes.now) ≡ got r n) × (c.in-Record.next ≡ c.loop-at.at + n)
-found c = record-read c.loop-at.at _ _ (sym c.in-Record.is ∙ c.check_record.ensures)
+found : (c : In_ok-at) → let a = c.args in
+    (r : Record) × (n : ℕ) × (parse_record a.grid.cols a.grid.rows (drop c.loop-at.at a.bytes.now) ≡ got r n) × (c.in_ok-at.at ≡ c.loop-at.at + n)
+found c = record-read c.loop-at.at _ _ (sym c.in_ok-at.was ∙ c.check_record.ensures)
 
 pub loop-at-smaller : goal.loop-at-smaller
 loop-at-smaller c =
@@ -26,9 +27,9 @@ pub loop-at-preserved : goal.loop-at-preserved
 loop-at-preserved c =
     count-on c.loop-at.invariant (grid-takes c.args.grid.cols c.args.grid.rows c.requires) c.loop-at-test.true _ _ _ (found c).2 (found c).3
 
-pub returns-in-Refused : goal.returns-in-Refused
-returns-in-Refused c =
-    sym (count-stop c.loop-at.invariant (grid-takes c.args.grid.cols c.args.grid.rows c.requires) c.loop-at-test.true _ (not-record c.loop-at.at _ _ (sym c.in-Refused.is ∙ c.check_record.ensures)))
+pub returns-in_err-at : goal.returns-in_err-at
+returns-in_err-at c =
+    handed _ _ c.from_residual.ensures ∙ sym (count-stop c.loop-at.invariant (grid-takes c.args.grid.cols c.args.grid.rows c.requires) c.loop-at-test.true _ (not-record c.loop-at.at _ _ (sym c.in_err-at.was ∙ c.check_record.ensures)))
 
 pub returns : goal.returns
 returns c = sym (count-end c.loop-at.invariant c.loop-at-test.false)

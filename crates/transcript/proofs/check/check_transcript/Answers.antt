@@ -8,9 +8,9 @@ pub returns-then-grid_right : goal.returns-then-grid_right
 unfolding checked when◌then◌else◌
 returns-then-grid_right c = rw (sym c.grid_right.ensures ∙ c.if-grid_right.true) c.check_records.ensures
 
-pub returns : goal.returns
+pub returns-else-grid_right : goal.returns-else-grid_right
 unfolding checked when◌then◌else◌
-returns c = rw (sym c.grid_right.ensures ∙ c.if-grid_right.false)
+returns-else-grid_right c = rw (sym c.grid_right.ensures ∙ c.if-grid_right.false)
 
 pub check_records-requires : goal.check_records-requires
 check_records-requires c = sym c.grid_right.ensures ∙ c.if-grid_right.true

@@ -25,9 +25,3 @@ overflow_add-short c = omega arith
 
 pub bounds-bytes-at : goal.bounds-bytes-at
 bounds-bytes-at c = omega arith
-
-pub overflow_add-i : goal.overflow_add-i
-overflow_add-i c = omega arith
-
-pub loop-i-smaller : goal.loop-i-smaller
-loop-i-smaller c = omega arith

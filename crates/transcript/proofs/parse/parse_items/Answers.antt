@@ -2,6 +2,7 @@
 use mathlib.Core.Path.{sym, ◌∙◌}
 use native.Mathlib.Omega.{arith}
 use Rattle.record.specs.Parse.{parse_item, parse_items}
+use Rattle.refusal.proofs.Answered.{handed}
 use Rattle.levels.proofs.Walks.{begins, goes_on, stops, passes, ends}
 use Rattle.transcript.proofs.parse.parse_items.Goals as goal
 
@@ -14,19 +15,19 @@ parse_item-requires c = (c.loop-i-test.true, c.loop-i.invariant.1)
 pub overflow_add-i : goal.overflow_add-i
 overflow_add-i c = omega (arith, c.loop-i-test.true)
 
-pub loop-i-smaller-in-End : goal.loop-i-smaller-in-End
-loop-i-smaller-in-End c = omega (arith, c.loop-i-test.true)
+pub loop-i-smaller-in_ok-p : goal.loop-i-smaller-in_ok-p
+loop-i-smaller-in_ok-p c = omega (arith, c.loop-i-test.true)
 
-pub loop-i-preserved-in-End : goal.loop-i-preserved-in-End
+pub loop-i-preserved-in_ok-p : goal.loop-i-preserved-in_ok-p
 unfolding parse_items
-loop-i-preserved-in-End c =
+loop-i-preserved-in_ok-p c =
     let l = c.loop-i in
     let r = c.parse_item in
-    (goes_on parse_item _ l.invariant.0 _ _ _ c.loop-i-test.true (sym c.item_coded.ensures ∙ c.if-item_coded.true) c.in-End.is r.ensures, r.auto.levels ∙ l.invariant.1)
+    (goes_on parse_item _ l.invariant.0 _ _ _ c.loop-i-test.true (sym c.item_coded.ensures ∙ c.if-item_coded.true) c.in_ok-p.was r.ensures, r.auto.levels ∙ l.invariant.1)
 
-pub returns-in-Refused : goal.returns-in-Refused
+pub returns-in_err-p : goal.returns-in_err-p
 unfolding parse_items
-returns-in-Refused c = stops parse_item _ c.loop-i.invariant.0 _ _ _ c.loop-i-test.true (sym c.item_coded.ensures ∙ c.if-item_coded.true) c.in-Refused.is c.parse_item.ensures
+returns-in_err-p c = rw (handed _ _ c.from_residual.ensures) (stops parse_item _ c.loop-i.invariant.0 _ _ _ c.loop-i-test.true (sym c.item_coded.ensures ∙ c.if-item_coded.true) c.in_err-p.was c.parse_item.ensures)
 
 pub loop-i-smaller : goal.loop-i-smaller
 loop-i-smaller c = omega (arith, c.group_end-i.ensures.on, c.loop-i-test.true)

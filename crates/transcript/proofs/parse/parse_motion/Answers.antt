@@ -3,6 +3,7 @@ use mathlib.Core.Path.{sym, ap, ◌∙◌}
 use native.Mathlib.Omega.{arith}
 use lib.ListN.{length}
 use Rattle.record.proofs.Padded.{used-most, length-no_vectors}
+use Rattle.refusal.proofs.Answered.{handed}
 use Rattle.transcript.proofs.Parsings.{no-precision, no-clipped, no-vectors, with-vectors}
 use Rattle.transcript.proofs.parse.parse_motion.Goals as goal
 
@@ -16,17 +17,17 @@ pub read_signed_numbers-requires : goal.read_signed_numbers-requires
 read_signed_numbers-requires c =
     omega (arith, c.num_motion_vectors-used.ensures, used-most c.args.head.mode c.requires.2, ap length c.requires.0 ∙ length-no_vectors)
 
-pub returns-in-End : goal.returns-in-End
-returns-in-End c =
-    with-vectors c.args.head c.args.bytes.now c.args.at _ _ _ _ (sym c.in-Number.is ∙ c.read_field.ensures) _ c.num_motion_vectors-used.ensures _ _ (sym c.in-Number-read_field.is ∙ c.read_field-in-Number.ensures) _ c.requires.0 _ c.read_signed_numbers.ensures _ _ _ c.with_motion.ensures c.in-End.is c.parse_residual.ensures
+pub returns : goal.returns
+returns c =
+    with-vectors c.args.head c.args.bytes.now c.args.at _ _ _ _ (sym c.in_ok-precision.was ∙ c.read_field.ensures) _ c.num_motion_vectors-used.ensures _ _ (sym c.in_ok-clipped.was ∙ c.read_field-2.ensures) _ c.requires.0 _ c.read_signed_numbers.ensures _ _ _ c.with_motion.ensures c.in_ok-next.was c.parse_residual.ensures
 
-pub returns-in-Refused-read_signed_numbers : goal.returns-in-Refused-read_signed_numbers
-returns-in-Refused-read_signed_numbers c =
-    no-vectors c.args.head c.args.bytes.now c.args.at _ _ _ _ (sym c.in-Number.is ∙ c.read_field.ensures) _ c.num_motion_vectors-used.ensures _ _ (sym c.in-Number-read_field.is ∙ c.read_field-in-Number.ensures) _ c.requires.0 _ c.read_signed_numbers.ensures _ c.in-Refused-read_signed_numbers.is
+pub returns-in_err-next : goal.returns-in_err-next
+returns-in_err-next c =
+    rw (handed _ _ c.from_residual-in_err-next.ensures) (no-vectors c.args.head c.args.bytes.now c.args.at _ _ _ _ (sym c.in_ok-precision.was ∙ c.read_field.ensures) _ c.num_motion_vectors-used.ensures _ _ (sym c.in_ok-clipped.was ∙ c.read_field-2.ensures) _ c.requires.0 _ c.read_signed_numbers.ensures _ c.in_err-next.was)
 
-pub returns-in-Refused-read_field : goal.returns-in-Refused-read_field
-returns-in-Refused-read_field c =
-    no-clipped c.args.head c.args.bytes.now c.args.at _ _ _ _ (sym c.in-Number.is ∙ c.read_field.ensures) _ c.num_motion_vectors-used.ensures _ (sym c.in-Refused-read_field.is ∙ c.read_field-in-Number.ensures)
+pub returns-in_err-clipped : goal.returns-in_err-clipped
+returns-in_err-clipped c =
+    rw (handed _ _ c.from_residual-in_err-clipped.ensures) (no-clipped c.args.head c.args.bytes.now c.args.at _ _ _ _ (sym c.in_ok-precision.was ∙ c.read_field.ensures) _ c.num_motion_vectors-used.ensures _ (sym c.in_err-clipped.was ∙ c.read_field-2.ensures))
 
-pub returns-in-Refused : goal.returns-in-Refused
-returns-in-Refused c = no-precision c.args.head c.args.bytes.now c.args.at _ _ _ (sym c.in-Refused.is ∙ c.read_field.ensures)
+pub returns-in_err-precision : goal.returns-in_err-precision
+returns-in_err-precision c = rw (handed _ _ c.from_residual.ensures) (no-precision c.args.head c.args.bytes.now c.args.at _ _ _ (sym c.in_err-precision.was ∙ c.read_field.ensures))

@@ -4,6 +4,7 @@ use native.Mathlib.Omega.{arith}
 use borrow.Author.Rules.{rules}
 use mir.Syntax.{w32}
 use mir.Val.{to_z, of_z}
+use Rattle.refusal.proofs.Answered.{handed}
 use Rattle.transcript.proofs.Reading.{taking, takes, take-stops, take_ends}
 use Rattle.transcript.proofs.parse.read_signed_numbers.Goals as goal
 
@@ -18,20 +19,14 @@ bounds-out-first c = omega (arith, c.loop-i.invariant.same)
 
 pub loop-i-preserved : goal.loop-i-preserved
 loop-i-preserved c =
-    let z : to_z w32 (of_z w32 c.in-SignedNumber.v) ≡ c.in-SignedNumber.v = search rules in
-    takes c.loop-i.invariant _ _ _ z c.loop-i-test.true (sym c.in-SignedNumber.is ∙ c.read_signed_number.ensures)
+    let z : to_z w32 (of_z w32 c.in_ok-v.v) ≡ c.in_ok-v.v = search rules in
+    takes c.loop-i.invariant _ _ _ z c.loop-i-test.true (sym c.in_ok-v.was ∙ c.read_signed_number.ensures)
 
-pub returns-in-Refused : goal.returns-in-Refused
-returns-in-Refused c = take-stops c.loop-i.invariant _ _ c.loop-i-test.true (sym c.in-Refused.is ∙ c.read_signed_number.ensures)
+pub returns-in_err-v : goal.returns-in_err-v
+returns-in_err-v c = rw (handed _ _ c.from_residual.ensures) (take-stops c.loop-i.invariant _ _ c.loop-i-test.true (sym c.in_err-v.was ∙ c.read_signed_number.ensures))
 
 pub returns : goal.returns
 returns c = take_ends c.loop-i.invariant c.loop-i-test.false
 
 pub read_signed_number-requires : goal.read_signed_number-requires
 read_signed_number-requires c = tt
-
-pub overflow_add-i : goal.overflow_add-i
-overflow_add-i c = omega arith
-
-pub loop-i-smaller : goal.loop-i-smaller
-loop-i-smaller c = omega arith

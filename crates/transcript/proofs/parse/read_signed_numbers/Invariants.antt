@@ -5,6 +5,3 @@ use Rattle.transcript.proofs.parse.read_signed_numbers.Given as goal
 
 abbrev pub invariant-loop-i : goal.invariant-loop-i
 invariant-loop-i l = Taking l.initial.out l.first l.count l.bytes l.at l.i l.p l.out
-
-abbrev pub decreases-loop-i : goal.decreases-loop-i
-decreases-loop-i l = l.count - l.i

@@ -15,7 +15,7 @@ pub loop-i-preserved : goal.loop-i-preserved
 loop-i-preserved c =
     let l = c.loop-i in
     let z : to_z w32 (of_z w32 c.received_of.result) ≡ c.received_of.result = search rules in
-    (omega arith, received-turn l.invariant.1 _ (omega arith) (z ∙ c.received_of.ensures ∙ ap received c.wide.ensures))
+    (omega arith, received-turn l.invariant.1 _ (omega arith) (z ∙ c.received_of.ensures))
 
 pub returns : goal.returns
 returns c =
@@ -33,9 +33,3 @@ offset_bounds-t-i c = omega arith
 
 pub bounds-t-i : goal.bounds-t-i
 bounds-t-i c = omega arith
-
-pub overflow_add-i : goal.overflow_add-i
-overflow_add-i c = omega arith
-
-pub loop-i-smaller : goal.loop-i-smaller
-loop-i-smaller c = omega arith

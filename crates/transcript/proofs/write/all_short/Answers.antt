@@ -25,9 +25,3 @@ bounds-t-i c = omega arith
 
 pub bounds-t-i-in-loop-i : goal.bounds-t-i-in-loop-i
 bounds-t-i-in-loop-i c = omega arith
-
-pub overflow_add-i : goal.overflow_add-i
-overflow_add-i c = omega arith
-
-pub loop-i-smaller : goal.loop-i-smaller
-loop-i-smaller c = omega arith

@@ -46,12 +46,3 @@ returns c = still-none c.loop-i.invariant.0 (no-list NormalScan 1 c.args.levels.
 
 pub overflow_mul-i : goal.overflow_mul-i
 overflow_mul-i c = omega arith
-
-pub overflow_add-i : goal.overflow_add-i
-overflow_add-i c = omega arith
-
-pub overflow_add-i-in-loop-i : goal.overflow_add-i-in-loop-i
-overflow_add-i-in-loop-i c = omega arith
-
-pub loop-i-smaller : goal.loop-i-smaller
-loop-i-smaller c = omega arith

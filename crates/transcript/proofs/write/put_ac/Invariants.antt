@@ -8,6 +8,3 @@ use Rattle.transcript.proofs.write.put_ac.Given as goal
 abbrev pub invariant-loop-i : goal.invariant-loop-i
 invariant-loop-i l =
     Still l.initial.out l.at (side_bytes NormalScan 1 8 264 l.levels) l.out l.p (side_bytes NormalScan 1 (8 - l.i) (264 + 16 * l.i) l.levels) × (l.i ≤ 8)
-
-abbrev pub decreases-loop-i : goal.decreases-loop-i
-decreases-loop-i l = 8 - l.i

@@ -40,12 +40,6 @@ put_list-p-requires c =
     let h = c.loop-i-test.true in
     (omega arith, omega (arith, h, c.requires.0), still-fits l.invariant.0 (one c.args.levels.now c.args.place l.i) (behind c.args.levels.now c.args.place l.i) (next-list c.args.levels.now c.args.place l.i h) c.requires.1)
 
-pub overflow_add-i : goal.overflow_add-i
-overflow_add-i c = omega (arith, c.loop-i-test.true)
-
-pub loop-i-smaller : goal.loop-i-smaller
-loop-i-smaller c = omega (arith, c.loop-i-test.true)
-
 pub loop-i-preserved : goal.loop-i-preserved
 loop-i-preserved c =
     let a = c.args in

@@ -8,6 +8,3 @@ use Rattle.transcript.proofs.write.put_blocks.Given as goal
 abbrev pub invariant-loop-i : goal.invariant-loop-i
 invariant-loop-i l =
     Still l.initial.out l.at (side_bytes NormalScan 0 4 l.place l.levels) l.out l.p (side_bytes NormalScan 0 (4 - l.i) (l.place + 16 * l.i) l.levels) × (l.i ≤ 4)
-
-abbrev pub decreases-loop-i : goal.decreases-loop-i
-decreases-loop-i l = 4 - l.i

@@ -34,9 +34,3 @@ returns c =
     let l = c.loop-q in
     let e : l.q ≡ 4 = omega (arith, c.loop-q-test.false, l.invariant.1) in
     still-last (rw e at l.invariant.0) c.put_chroma.ensures
-
-pub overflow_add-q : goal.overflow_add-q
-overflow_add-q c = omega (arith, c.loop-q-test.true)
-
-pub loop-q-smaller : goal.loop-q-smaller
-loop-q-smaller c = omega (arith, c.loop-q-test.true)

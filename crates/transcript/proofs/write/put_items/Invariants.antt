@@ -7,6 +7,3 @@ use Rattle.transcript.proofs.write.put_items.Given as goal
 abbrev pub invariant-loop-q : goal.invariant-loop-q
 invariant-loop-q l =
     Still l.initial.out l.at (items_bytes 26 0 l.pattern l.levels) l.out l.p (items_bytes (26 - 4 * l.q) (4 * l.q) l.pattern l.levels) × (l.q ≤ 4)
-
-abbrev pub decreases-loop-q : goal.decreases-loop-q
-decreases-loop-q l = 4 - l.q

@@ -29,9 +29,3 @@ overflow_add-out c = omega arith
 
 pub bounds-out-at : goal.bounds-out-at
 bounds-out-at c = omega arith
-
-pub overflow_add-i : goal.overflow_add-i
-overflow_add-i c = omega arith
-
-pub loop-i-smaller : goal.loop-i-smaller
-loop-i-smaller c = omega arith

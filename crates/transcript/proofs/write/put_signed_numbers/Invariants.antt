@@ -8,6 +8,3 @@ use Rattle.transcript.proofs.write.put_signed_numbers.Given as goal
 abbrev pub invariant-loop-i : goal.invariant-loop-i
 invariant-loop-i l =
     Still l.initial.out l.at (signed_numbers (take l.count (drop l.first l.numbers))) l.out l.p (signed_numbers (take (l.count - l.i) (drop (l.first + l.i) l.numbers))) × (l.i ≤ l.count)
-
-abbrev pub decreases-loop-i : goal.decreases-loop-i
-decreases-loop-i l = l.count - l.i

@@ -36,9 +36,3 @@ bounds-numbers-first c = omega arith
 
 pub bounds-t-i : goal.bounds-t-i
 bounds-t-i c = omega arith
-
-pub overflow_add-i : goal.overflow_add-i
-overflow_add-i c = omega arith
-
-pub loop-i-smaller : goal.loop-i-smaller
-loop-i-smaller c = omega arith
