@@ -7,7 +7,7 @@ use Rattle.ints.specs.Z.{when◌then◌else◌, clamp_z, sat_z, over_z, min_z, m
 use Rattle.vectors.specs.declared.svq3_mb.Svq3MvPrecision.TheVariants.{Fullpel, Halfpel, Thirdpel}
 use Rattle.vectors.specs.Predict.{vector, median_of, combined, held_in}
 use Rattle.vectors.specs.Units.{round_to_sixths, convert_predictor, summed, scaled, stored_part, clipped_part}
-use Rattle.vectors.specs.declared.svq3_frame.Near.TheVariants.{Missing, Here}
+use Rattle.std.specs.Prelude.{Some, None}
 
 -- in full-pel -3 → 0, -4 → -1 and 3 → 1; in half-pel -2 → -1; in third-pel -1 → 0
 pub converted :
@@ -26,8 +26,8 @@ moved = (refl, refl, refl, refl, refl, refl)
 
 -- one neighbour is taken as it is, two go through the median with 0; and what points out of a picture of one macroblock is held
 pub predicted-from :
-    (combined Missing (Here (vector (pos 7) (negsuc 4))) Missing ≡ vector (pos 7) (negsuc 4))
-    × (combined (Here (vector (pos 7) (pos 2))) Missing (Here (vector (pos 9) (negsuc 4))) ≡ vector (pos 7) (pos 0))
+    (combined None (Some (vector (pos 7) (negsuc 4))) None ≡ vector (pos 7) (negsuc 4))
+    × (combined (Some (vector (pos 7) (pos 2))) None (Some (vector (pos 9) (negsuc 4))) ≡ vector (pos 7) (pos 0))
     × (held_in 16 8 8 (pos 1) ≡ pos 0) × (held_in 16 8 8 (negsuc 99) ≡ negsuc 47)
 unfolding combined median_of median_z min_z max_z held_in clamp_z when◌then◌else◌
 predicted-from = (refl, refl, refl, refl)

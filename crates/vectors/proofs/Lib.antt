@@ -1,7 +1,6 @@
 pub mod Partitions
 pub mod Precisions
 pub mod Flags
-pub mod Answers
 pub mod ModeExamples
 pub mod Tests
 pub mod Predictors

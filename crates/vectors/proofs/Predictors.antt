@@ -11,7 +11,7 @@ use lib.ListN.{get_or}
 use lib.IntN.{ℤ, pos, nat_abs, ◌+ℤ◌, ◌-ℤ◌, ◌*ℤ◌}
 use lib.Signed.{mag}
 use mir.Syntax.{w32, w64}
-use mir.Val.{to_z}
+use mir.Val.{to_z, bool_byte}
 use mir.Facts.{to_z-of_z}
 use Rattle.ints.specs.Z.{when◌then◌else◌, clamp_z}
 use Rattle.ints.proofs.Fits.{read, cast-pos, mag-add, if_yes, if_no}
@@ -21,15 +21,20 @@ use Rattle.ints.proofs.Laws.{clamp-low, clamp-high}
 use Rattle.vectors.specs.Predict.{vector, cell_at, present, or_else, vector_of, median_of, combined, held_in}
 use Rattle.vectors.specs.declared.svq3_frame.Vector.{Vector}
 use Rattle.vectors.proofs.Tests.{neither}
-use Rattle.vectors.specs.declared.svq3_frame.Near.{Near}
-use Rattle.vectors.specs.declared.svq3_frame.Near.TheVariants.{Missing, Here}
+use Rattle.std.specs.Prelude.{Option, Some, None, is_some}
+use Rattle.std.specs.Option.{UnwrapsOrElse}
+
+-- ---- a vector, or vector 0 where it is missing
+pub or-zero : (a : Option Vector) (v : Vector) → UnwrapsOrElse a (λ u. (u.x.0 ≡ pos 0) × (u.y.0 ≡ pos 0)) v → v ≡ vector_of a
+or-zero None v e = λ i. vector (e.0 i) (e.1 i)
+or-zero (Some u) v e = e
 
 -- ---- how many
-pub present-most : (a : Near) → present a ≤ 1
-present-most Missing = omega arith
-present-most (Here v) = omega arith
+pub counted : (a : Option Vector) {t : Bool} {n : ℕ} → t ≡ is_some a → n ≡ bool_byte t → n ≡ present a
+counted None e f = f ∙ ap bool_byte e
+counted (Some v) e f = f ∙ ap bool_byte e
 
-module _ (a b c : Near) {l m n : ℕ} (p : l ≡ present a) (q : m ≡ present b) (r : n ≡ present c) where
+module _ (a b c : Option Vector) {l m n : ℕ} (p : l ≡ present a) (q : m ≡ present b) (r : n ≡ present c) where
   pub few : l + m + n < 2 → combined a b c ≡ vector_of (or_else a (or_else b c))
   unfolding combined
   few h = if_yes _ _ _ (lt-ltb (present a + present b + present c) 2 (omega arith))
@@ -53,7 +58,7 @@ module _ (mv : List ℤ) (marks : List ℕ) where
   abbrev at : ℕ → Vector
   at i = vector (get_or mv (2 * i) (pos 0)) (get_or mv (2 * i + 1) (pos 0))
 
-  cell-here : (i : ℕ) → eqb (get_or marks i 0) 0 ≡ false → cell_at mv marks i ≡ Here (at i)
+  cell-here : (i : ℕ) → eqb (get_or marks i 0) 0 ≡ false → cell_at mv marks i ≡ Some (at i)
   unfolding cell_at
   cell-here i e = if_no _ _ _ e
 
@@ -62,7 +67,7 @@ module _ (mv : List ℤ) (marks : List ℕ) where
       let k = neither (eqb (get_or marks a 0) 0 || eqb (get_or marks b 0) 0) (eqb (get_or marks c 0) 0) e in
       let l = neither (eqb (get_or marks a 0) 0) (eqb (get_or marks b 0) 0) k.0 in
       (λ i. combined (cell-here a l.0 i) (cell-here b l.1 i) (cell-here c k.1 i))
-      ∙ several (Here (at a)) (Here (at b)) (Here (at c)) refl refl refl (omega arith)
+      ∙ several (Some (at a)) (Some (at b)) (Some (at c)) refl refl refl (omega arith)
 
 -- ---- held in the picture
 -- six for each sample, as the machine computes it

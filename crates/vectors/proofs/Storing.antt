@@ -21,8 +21,8 @@ use Rattle.picture.specs.Field.{Field}
 use Rattle.vectors.specs.Predict.{vector, cell_at, near_at}
 pub use Rattle.vectors.specs.InnerWindow.{FieldSized}
 use Rattle.vectors.specs.Stored.{pair_of, stored_vectors, stored_marks, stored_field}
-use Rattle.vectors.specs.declared.svq3_frame.Near.{Near}
-use Rattle.vectors.specs.declared.svq3_frame.Near.TheVariants.{Missing, Here}
+use Rattle.std.specs.Prelude.{Option, Some, None}
+use Rattle.vectors.specs.declared.svq3_frame.Vector.{Vector}
 
 -- ---- a pair of numbers for each cell
 pub pair_same : (v : ℤ) (r c : ℕ) → v ≡ pair_of v v r c
@@ -60,8 +60,8 @@ unfolding painted
 painted-at s x y w h v l i d lt = each_at_lem _ l i d lt
 
 -- by its mark and its numbers
-abbrev pub shown : ℕ → ℤ → ℤ → Near
-shown m a b = when eqb m 0 then Missing else Here (vector a b)
+abbrev pub shown : ℕ → ℤ → ℤ → Option Vector
+shown m a b = when eqb m 0 then None else Some (vector a b)
 
 -- column c of row r, in rows of s cells: number e of its two stands in column 2 · c + e of 2 · s
 module _ (s x y w h r c : ℕ) (lc : c < s) where
@@ -113,14 +113,14 @@ module _ (s x y w h r c : ℕ) (lc : c < s) where
 
   -- THE CELL afterwards: the vector where it belongs to the partition, and else what it was
   stored-cell : (vx vy : ℤ) (mv : List ℤ) (marks : List ℕ) → length mv ≡ 2 * length marks → r * s + c < length marks
-      → cell_at (stored_vectors mv s x y w h vx vy) (stored_marks marks s x y w h) (r * s + c) ≡ cond belongs (Here (vector vx vy)) (cell_at mv marks (r * s + c))
+      → cell_at (stored_vectors mv s x y w h vx vy) (stored_marks marks s x y w h) (r * s + c) ≡ cond belongs (Some (vector vx vy)) (cell_at mv marks (r * s + c))
   unfolding cell_at pair_of when◌then◌else◌
   stored-cell vx vy mv marks twice lt =
       let x₀ = rw add-zero at (number_at 0 (omega arith) vx vy mv (omega arith)) in
       let y₀ = number_at 1 (omega arith) vx vy mv (omega arith) in
       (λ i. shown (mark-at marks lt i) (x₀ i) (y₀ i)) ∙ go belongs _ _ _
     where
-      go : (t : Bool) (m : ℕ) (a b : ℤ) → shown (cond t 1 m) (cond t vx a) (cond t vy b) ≡ cond t (Here (vector vx vy)) (shown m a b)
+      go : (t : Bool) (m : ℕ) (a b : ℤ) → shown (cond t 1 m) (cond t vx a) (cond t vy b) ≡ cond t (Some (vector vx vy)) (shown m a b)
       go true m a b = refl
       go false m a b = refl
 
@@ -146,21 +146,21 @@ module _ (f : Field) (x y w h : ℕ) (vx vy : ℤ) where
   stored-sized s = record { numbers = vectors-length f.mv (4 * f.cols) x y w h vx vy ∙ s.numbers; cells = marks-length f.marks (4 * f.cols) x y w h ∙ s.cells }
 
   -- ANY CELL of the field afterwards, on the picture or off it
-  pub near-stored : FieldSized f → x + w ≤ 4 * f.cols → y + h ≤ 4 * f.rows → (c r : ℕ) → near_at after c r ≡ cond (within x w c && within y h r) (Here (vector vx vy)) (near_at f c r)
+  pub near-stored : FieldSized f → x + w ≤ 4 * f.cols → y + h ≤ 4 * f.rows → (c r : ℕ) → near_at after c r ≡ cond (within x w c && within y h r) (Some (vector vx vy)) (near_at f c r)
   unfolding near_at stored_field when◌then◌else◌
   near-stored s lx ly c r = go (ltb c (4 * f.cols) && ltb r (4 * f.rows)) refl
     where
-      old : Near
+      old : Option Vector
       old = cell_at f.mv f.marks (r * (4 * f.cols) + c)
 
-      new : Near
+      new : Option Vector
       new = cell_at (stored_vectors f.mv (4 * f.cols) x y w h vx vy) (stored_marks f.marks (4 * f.cols) x y w h) (r * (4 * f.cols) + c)
 
-      none : (b : Bool) → (b ≡ true → ⊥) → Missing ≡ cond b (Here (vector vx vy)) Missing
+      none : (b : Bool) → (b ≡ true → ⊥) → None ≡ cond b (Some (vector vx vy)) None
       none true n = absurd (n refl)
       none false n = refl
 
-      go : (t : Bool) → (ltb c (4 * f.cols) && ltb r (4 * f.rows)) ≡ t → (when t then new else Missing) ≡ cond (within x w c && within y h r) (Here (vector vx vy)) (when t then old else Missing)
+      go : (t : Bool) → (ltb c (4 * f.cols) && ltb r (4 * f.rows)) ≡ t → (when t then new else None) ≡ cond (within x w c && within y h r) (Some (vector vx vy)) (when t then old else None)
       go true e =
           let lc = ltb-true c (4 * f.cols) (and_left (ltb c (4 * f.cols)) (ltb r (4 * f.rows)) e) in
           let lr = ltb-true r (4 * f.rows) (and_right (ltb c (4 * f.cols)) (ltb r (4 * f.rows)) e) in

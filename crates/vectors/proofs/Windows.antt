@@ -27,8 +27,8 @@ use Rattle.vectors.specs.Stored.{stored_field}
 use Rattle.vectors.proofs.Tests.{neither, same_test}
 use Rattle.vectors.proofs.Storing.{shown, FieldSized, near-stored}
 use Rattle.vectors.specs.InnerWindow.{Window, End, Sight, Seen, Part, pair_set, corner_pairs, corner_marks, first, last, on_left, on_right, above, corner}
-use Rattle.vectors.specs.declared.svq3_frame.Near.{Near}
-use Rattle.vectors.specs.declared.svq3_frame.Near.TheVariants.{Missing, Here}
+use Rattle.std.specs.Prelude.{Option, Some, None}
+use Rattle.vectors.specs.declared.svq3_frame.Vector.{Vector}
 
 -- ---- off the picture, as the code tests it
 abbrev pub off : ℕ → ℕ → ℕ → Bool
@@ -55,7 +55,7 @@ pub whole-place : (cols column y n : ℕ) → 0 < y → column + 1 < cols → y 
 whole-place cols column y n b l h = omega (arith, on-place (4 * column + 8) y (4 * cols) n (omega arith) b (omega arith) h)
 
 module _ (cols rows : ℕ) (mv : List ℤ) (marks : List ℕ) where
-  pub off-missing : (x y : ℕ) → off cols x y ≡ true → above_left_of (lent_field cols rows mv marks) x y ≡ Missing
+  pub off-missing : (x y : ℕ) → off cols x y ≡ true → above_left_of (lent_field cols rows mv marks) x y ≡ None
   unfolding above_left_of left_of near_at
   off-missing x zero e = refl
   off-missing zero (suc y) e = refl
@@ -125,7 +125,7 @@ module _ (near : List ℤ) (marked : List ℕ) (mv : List ℤ) (marks : List ℕ
 
 -- ---- cell k written: its mark alone, or all of it
 module _ (mv : List ℤ) (marks : List ℕ) (k : ℕ) where
-  pub no-vector : k < length marks → cell_at mv (set marks k 0) k ≡ Missing
+  pub no-vector : k < length marks → cell_at mv (set marks k 0) k ≡ None
   unfolding cell_at when◌then◌else◌
   no-vector h = rw (get_or-set_same marks k 0 0 h)
 
@@ -250,7 +250,7 @@ and_none false = refl
 
 -- the cell above and to the left of any place, after a partition that lies in the grid was stored
 module _ (f : Field) (x y w h : ℕ) (vx vy : ℤ) (s : FieldSized f) (lx : x + w ≤ 4 * f.cols) (ly : y + h ≤ 4 * f.rows) where
-  corner-stored : (c r : ℕ) → above_left_of (stored_field f x y w h vx vy) c r ≡ cond (within (x + 1) w c && within (y + 1) h r) (Here (vector vx vy)) (above_left_of f c r)
+  corner-stored : (c r : ℕ) → above_left_of (stored_field f x y w h vx vy) c r ≡ cond (within (x + 1) w c && within (y + 1) h r) (Some (vector vx vy)) (above_left_of f c r)
   unfolding above_left_of left_of
   corner-stored c zero = rw (within_none y h, and_none (within (x + 1) w c))
   corner-stored zero (suc r) = rw (within_none x w)
@@ -258,15 +258,15 @@ module _ (f : Field) (x y w h : ℕ) (vx vy : ℤ) (s : FieldSized f) (lx : x + 
 
 -- ---- cells made a vector, marked 1
 module _ (vx vy : ℤ) where
-  made : (mv : List ℤ) (marks : List ℕ) (k : ℕ) → k < length marks → 2 * k + 1 < length mv → cell_at (pair_set mv k vx vy) (set marks k 1) k ≡ Here (vector vx vy)
+  made : (mv : List ℤ) (marks : List ℕ) (k : ℕ) → k < length marks → 2 * k + 1 < length mv → cell_at (pair_set mv k vx vy) (set marks k 1) k ≡ Some (vector vx vy)
   unfolding when◌then◌else◌
   made mv marks k h l = loaded mv marks k 1 vx vy h l
 
   -- a cell that has it keeps it
-  kept : (mv : List ℤ) (marks : List ℕ) (k i : ℕ) → k < length marks → 2 * k + 1 < length mv → cell_at mv marks i ≡ Here (vector vx vy) → cell_at (pair_set mv k vx vy) (set marks k 1) i ≡ Here (vector vx vy)
+  kept : (mv : List ℤ) (marks : List ℕ) (k i : ℕ) → k < length marks → 2 * k + 1 < length mv → cell_at mv marks i ≡ Some (vector vx vy) → cell_at (pair_set mv k vx vy) (set marks k 1) i ≡ Some (vector vx vy)
   kept mv marks k i h l e = go (eqb i k) refl
     where
-      go : (t : Bool) → eqb i k ≡ t → cell_at (pair_set mv k vx vy) (set marks k 1) i ≡ Here (vector vx vy)
+      go : (t : Bool) → eqb i k ≡ t → cell_at (pair_set mv k vx vy) (set marks k 1) i ≡ Some (vector vx vy)
       go true q = rw (eqb-true i k q) (made mv marks k h l)
       go false q = loaded-other mv marks k 1 vx vy i (eqb-false i k q) ∙ e
 
@@ -311,35 +311,35 @@ module _ (mv : List ℤ) (marks : List ℕ) (k across down : ℕ) (vx vy : ℤ) 
   corners-window : Window (corner_pairs mv k across down vx vy) (corner_marks marks k across down)
   corners-window = record { numbers = simp length-set w.numbers; cells = simp length-set w.cells }
 
-  abbrev corner-cell : ℕ → Near
+  abbrev corner-cell : ℕ → Option Vector
   corner-cell i = cell_at (corner_pairs mv k across down vx vy) (corner_marks marks k across down) i
 
   corners-other : (i : ℕ) → i ≢ k → i ≢ k + across → i ≢ k + down → i ≢ k + across + down → corner-cell i ≡ cell_at mv marks i
   corners-other i a b c d =
       loaded-other mv₃ marks₃ (k + across + down) 1 vx vy i d ∙ loaded-other mv₂ marks₂ (k + down) 1 vx vy i c ∙ loaded-other mv₁ marks₁ (k + across) 1 vx vy i b ∙ loaded-other mv marks k 1 vx vy i a
 
-  corners-here : (i : ℕ) → (i ≡ k) ⊎ ((i ≡ k + across) ⊎ ((i ≡ k + down) ⊎ (i ≡ k + across + down))) → corner-cell i ≡ Here (vector vx vy)
+  corners-here : (i : ℕ) → (i ≡ k) ⊎ ((i ≡ k + across) ⊎ ((i ≡ k + down) ⊎ (i ≡ k + across + down))) → corner-cell i ≡ Some (vector vx vy)
   corners-here i h = ⊎_elim (λ e. rw e (three k (two k (one k first_made)))) (⊎_elim (λ e. rw e (three (k + across) (two (k + across) second-made))) (⊎_elim (λ e. rw e (three (k + down) third-made)) (λ e. rw e fourth-made))) h
     where
-      one : (j : ℕ) → cell_at mv₁ marks₁ j ≡ Here (vector vx vy) → cell_at mv₂ marks₂ j ≡ Here (vector vx vy)
+      one : (j : ℕ) → cell_at mv₁ marks₁ j ≡ Some (vector vx vy) → cell_at mv₂ marks₂ j ≡ Some (vector vx vy)
       one j = kept vx vy mv₁ marks₁ (k + across) j (omega (arith, cells₁)) (omega (arith, numbers₁))
 
-      two : (j : ℕ) → cell_at mv₂ marks₂ j ≡ Here (vector vx vy) → cell_at mv₃ marks₃ j ≡ Here (vector vx vy)
+      two : (j : ℕ) → cell_at mv₂ marks₂ j ≡ Some (vector vx vy) → cell_at mv₃ marks₃ j ≡ Some (vector vx vy)
       two j = kept vx vy mv₂ marks₂ (k + down) j (omega (arith, cells₂)) (omega (arith, numbers₂))
 
-      three : (j : ℕ) → cell_at mv₃ marks₃ j ≡ Here (vector vx vy) → corner-cell j ≡ Here (vector vx vy)
+      three : (j : ℕ) → cell_at mv₃ marks₃ j ≡ Some (vector vx vy) → corner-cell j ≡ Some (vector vx vy)
       three j = kept vx vy mv₃ marks₃ (k + across + down) j (omega (arith, cells₃)) (omega (arith, numbers₃))
 
-      first_made : cell_at mv₁ marks₁ k ≡ Here (vector vx vy)
+      first_made : cell_at mv₁ marks₁ k ≡ Some (vector vx vy)
       first_made = made vx vy mv marks k (omega (arith, w.cells)) (omega (arith, w.numbers))
 
-      second-made : cell_at mv₂ marks₂ (k + across) ≡ Here (vector vx vy)
+      second-made : cell_at mv₂ marks₂ (k + across) ≡ Some (vector vx vy)
       second-made = made vx vy mv₁ marks₁ (k + across) (omega (arith, cells₁)) (omega (arith, numbers₁))
 
-      third-made : cell_at mv₃ marks₃ (k + down) ≡ Here (vector vx vy)
+      third-made : cell_at mv₃ marks₃ (k + down) ≡ Some (vector vx vy)
       third-made = made vx vy mv₂ marks₂ (k + down) (omega (arith, cells₂)) (omega (arith, numbers₂))
 
-      fourth-made : corner-cell (k + across + down) ≡ Here (vector vx vy)
+      fourth-made : corner-cell (k + across + down) ≡ Some (vector vx vy)
       fourth-made = made vx vy mv₃ marks₃ (k + across + down) (omega (arith, cells₃)) (omega (arith, numbers₃))
 
 -- stored one after another
@@ -408,12 +408,12 @@ seen_stored {f} {column} {row} {cx} {cy} {wide} {high} {mv} {marks} vx vy s g p 
     fits : k + (wide - 1) + 6 * (high - 1) < 30
     fits = omega (arith, p.across, p.down, p.wide_some, p.high_some)
 
-    far : (c r : ℕ) → above_left_of (stored_field f (4 * column + cx) (4 * row + cy) wide high vx vy) (4 * column + c) (4 * row + r) ≡ cond (within (cx + 1) wide c && within (cy + 1) high r) (Here (vector vx vy)) (above_left_of f (4 * column + c) (4 * row + r))
+    far : (c r : ℕ) → above_left_of (stored_field f (4 * column + cx) (4 * row + cy) wide high vx vy) (4 * column + c) (4 * row + r) ≡ cond (within (cx + 1) wide c && within (cy + 1) high r) (Some (vector vx vy)) (above_left_of f (4 * column + c) (4 * row + r))
     far c r =
         let bx = ap (λ n. within n wide (4 * column + c)) (add_assoc (4 * column) cx 1) ∙ within-shift (4 * column) (cx + 1) wide c in
         let by' = ap (λ n. within n high (4 * row + r)) (add_assoc (4 * row) cy 1) ∙ within-shift (4 * row) (cy + 1) high r in
         corner-stored f (4 * column + cx) (4 * row + cy) wide high vx vy s (omega (arith, g.across, p.across)) (omega (arith, g.down, p.down)) (4 * column + c) (4 * row + r)
-        ∙ λ i. cond (bx i && by' i) (Here (vector vx vy)) (above_left_of f (4 * column + c) (4 * row + r))
+        ∙ λ i. cond (bx i && by' i) (Some (vector vx vy)) (above_left_of f (4 * column + c) (4 * row + r))
 
     -- outside the partition
     same : (c r : ℕ) → c < 6 → r < 5 → Sight wide high c r → (within (cx + 1) wide c ≡ true → within (cy + 1) high r ≡ true → ⊥) → corner-cell mv marks k (wide - 1) (6 * (high - 1)) vx vy e.window fits (r * 6 + c) ≡ above_left_of f (4 * column + c) (4 * row + r)
@@ -425,7 +425,7 @@ seen_stored {f} {column} {row} {cx} {cy} {wide} {high} {mv} {marks} vx vy s g p 
         ∙ e.shows c r lc lr t
 
     near : (c r : ℕ) → c < 6 → r < 5 → Sight wide high c r → (u : Bool) → within (cx + 1) wide c ≡ u → (v : Bool) → within (cy + 1) high r ≡ v
-        → corner-cell mv marks k (wide - 1) (6 * (high - 1)) vx vy e.window fits (r * 6 + c) ≡ cond (within (cx + 1) wide c && within (cy + 1) high r) (Here (vector vx vy)) (above_left_of f (4 * column + c) (4 * row + r))
+        → corner-cell mv marks k (wide - 1) (6 * (high - 1)) vx vy e.window fits (r * 6 + c) ≡ cond (within (cx + 1) wide c && within (cy + 1) high r) (Some (vector vx vy)) (above_left_of f (4 * column + c) (4 * row + r))
     near c r lc lr t true tx true ty = rw (tx, ty) (corners-here mv marks k (wide - 1) (6 * (high - 1)) vx vy e.window fits (r * 6 + c) (spot p c r lc tx ty t))
     near c r lc lr t true tx false ty = rw (tx, ty) (same c r lc lr t (λ a b. true≢false (sym b ∙ ty)))
     near c r lc lr t false tx v ty = rw tx (same c r lc lr t (λ a b. true≢false (sym a ∙ tx)))

@@ -1,12 +1,10 @@
--- What the reader of the precision answers from a place on.
+-- What the reader of one bit reads: contracts of inner functions.
 -- Assumes nothing.
-use Rattle.std.specs.Prelude.{ℕ, ◌+◌}
+use Rattle.std.specs.Prelude.{Bool, List, [], ◌∷◌}
 use Rattle.refusal.specs.Got.{Got, got, refused}
-use Rattle.vectors.specs.declared.svq3_mb.Svq3MvPrecision.{Svq3MvPrecision}
-use Rattle.vectors.specs.declared.svq3_mb.PrecisionAnswer.{PrecisionAnswer}
-use Rattle.vectors.specs.declared.svq3_mb.PrecisionAnswer.TheVariants.{Precision, Refused}
+use Rattle.refusal.specs.declared.Refusal.TheVariants.{Truncated}
 
--- the answer of a reader that started at a place
-abbrev pub precision_answer : ℕ → Got Svq3MvPrecision → PrecisionAnswer
-precision_answer at (got p n) = Precision p (at + n)
-precision_answer at (refused r) = Refused r
+-- the bit at the head of s
+unfoldable pub first_bit : List Bool → Got Bool
+first_bit [] = refused Truncated
+first_bit (b ∷ s) = got b 1

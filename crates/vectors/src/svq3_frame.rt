@@ -4,7 +4,7 @@ ghost use Rattle.ints.specs.Z.{sat_z, over_z, floor_z};
 ghost use Rattle.picture.specs.Painted.{Inside};
 ghost use Rattle.picture.specs.Picture.{always};
 ghost use Rattle.picture.specs.InnerRows.{row};
-ghost use Rattle.vectors.specs.Predict.{or_else, vector_of, present, median_of, combined, held_in};
+ghost use Rattle.vectors.specs.Predict.{median_of, combined, held_in};
 ghost use Rattle.vectors.specs.InnerSamples.{units_in_sample};
 ghost use Rattle.vectors.specs.Units.{convert_predictor, stored_scale, stored_part, clipped_part};
 ghost use Rattle.vectors.specs.Stored.{pair_of, stored_vectors, stored_marks};
@@ -14,57 +14,18 @@ use ints::{clamp_i64, median3, sat_add, sat_mul};
 use picture::Grid;
 
 // A component of a stored vector or of its predictor.
-#[derive(Clone, Copy)]
+#[derive(Clone, Copy, Default)]
 pub struct Sixths(pub i32);
 
 // A component in the precision's unit: a difference, or a predictor that was converted.
 #[derive(Clone, Copy)]
 pub struct Units(pub i32);
 
-#[derive(Clone, Copy)]
+// A stored vector. The default is vector 0.
+#[derive(Clone, Copy, Default)]
 pub struct Vector {
     pub x: Sixths,
     pub y: Sixths,
-}
-
-// A neighbour: no vector where it lies off the picture or is marked 0.
-#[derive(Clone, Copy)]
-pub enum Near {
-    Missing,
-    Here(Vector),
-}
-
-// The first of two, or the second where the first is missing.
-fn or_else(c: Near, d: Near) -> Near
-    ensures { result ≡ or_else c d }
-{
-    match c {
-        Near::Missing => d,
-        Near::Here(v) => Near::Here(v),
-    }
-}
-
-// A neighbour's vector, 0 where it is missing.
-fn vector_of(a: Near) -> Vector
-    ensures { result ≡ vector_of a }
-{
-    match a {
-        Near::Missing => Vector {
-            x: Sixths(0),
-            y: Sixths(0),
-        },
-        Near::Here(v) => v,
-    }
-}
-
-// 1 where there is a vector.
-fn present(a: Near) -> u32
-    ensures { result ≡ present a }
-{
-    match a {
-        Near::Missing => 0,
-        Near::Here(_) => 1,
-    }
 }
 
 // The median of each component.
@@ -77,14 +38,18 @@ pub fn median_of(a: Vector, b: Vector, c: Vector) -> Vector
     }
 }
 
-// The prediction from A, B and C.
-pub fn combined(a: Near, b: Near, c: Near) -> Vector
+// The prediction from the neighbours A, B and C: none where it lies off the picture or is marked 0.
+pub fn combined(a: Option<Vector>, b: Option<Vector>, c: Option<Vector>) -> Vector
     ensures { result ≡ combined a b c }
 {
-    if present(a) + present(b) + present(c) < 2 {
-        return vector_of(or_else(a, or_else(b, c)));
+    if u32::from(a.is_some()) + u32::from(b.is_some()) + u32::from(c.is_some()) < 2 {
+        return a.or(b.or(c)).unwrap_or_default();
     }
-    median_of(vector_of(a), vector_of(b), vector_of(c))
+    median_of(
+        a.unwrap_or_default(),
+        b.unwrap_or_default(),
+        c.unwrap_or_default(),
+    )
 }
 
 // p, held so that the span that it points to lies in the picture.

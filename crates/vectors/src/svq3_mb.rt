@@ -1,9 +1,10 @@
 // Partitions by mode, the mode being the number of a call, and the precision selector.
 ghost use Rattle.std.specs.Prelude.{◌≡◌, ◌*◌, ◌/◌, ◌%◌, ◌≤◌, ◌<◌, ◌^◌, length, drop};
 ghost use Rattle.bits.specs.Bits.{bit_list};
+ghost use Rattle.refusal.specs.Answered.{answered};
 ghost use Rattle.vectors.specs.Modes.{partition_width, partition_height, num_motion_vectors, offset_x, offset_y};
 ghost use Rattle.vectors.specs.Precision.{precision_number, one_flag, both_flags, precision};
-ghost use Rattle.vectors.specs.InnerPrecision.{precision_answer};
+ghost use Rattle.vectors.specs.InnerPrecision.{first_bit};
 
 use bits::bitreader::bit_at;
 use refusal::Refusal;
@@ -73,13 +74,6 @@ pub enum Svq3MvPrecision {
     Thirdpel,
 }
 
-#[derive(Clone, Copy)]
-pub enum PrecisionAnswer {
-    // a precision, and the place after its bits
-    Precision(Svq3MvPrecision, usize),
-    Refused(Refusal),
-}
-
 // The number of a precision in a transcript.
 pub fn precision_number(p: Svq3MvPrecision) -> u32
     ensures { result ≡ precision_number p }
@@ -97,56 +91,54 @@ pub fn read_inter_mv_precision_p_frame(
     at: usize,
     thirdpel: bool,
     halfpel: bool,
-) -> PrecisionAnswer
+) -> Result<(Svq3MvPrecision, usize), Refusal>
     requires { length bits.now < 2 ^ 61 }
-    ensures { result ≡ precision_answer at (precision halfpel thirdpel (drop at (bit_list bits.now))) }
+    ensures { result ≡ answered at (precision halfpel thirdpel (drop at (bit_list bits.now))) }
 {
-    if halfpel {
-        if thirdpel {
-            return both_flags(bits, at);
-        }
-        return one_flag(bits, at, Svq3MvPrecision::Halfpel);
+    match (halfpel, thirdpel) {
+        (true, true) => both_flags(bits, at),
+        (true, false) => one_flag(bits, at, Svq3MvPrecision::Halfpel),
+        (false, true) => one_flag(bits, at, Svq3MvPrecision::Thirdpel),
+        (false, false) => Ok((Svq3MvPrecision::Fullpel, at)),
     }
-    if thirdpel {
-        return one_flag(bits, at, Svq3MvPrecision::Thirdpel);
+}
+
+// The bit at a place.
+fn read_bit(bits: &[u8], at: usize) -> Result<(bool, usize), Refusal>
+    requires { length bits.now < 2 ^ 61 }
+    ensures { result ≡ answered at (first_bit (drop at (bit_list bits.now))) }
+{
+    if bits.len() <= at / 8 {
+        return Err(Refusal::Truncated);
     }
-    PrecisionAnswer::Precision(Svq3MvPrecision::Fullpel, at)
+    Ok((bit_at(bits, at), at + 1))
 }
 
 // The flag of p alone is set.
-fn one_flag(bits: &[u8], at: usize, p: Svq3MvPrecision) -> PrecisionAnswer
+fn one_flag(bits: &[u8], at: usize, p: Svq3MvPrecision) -> Result<(Svq3MvPrecision, usize), Refusal>
     requires { length bits.now < 2 ^ 61 }
-    ensures { result ≡ precision_answer at (one_flag p (drop at (bit_list bits.now))) }
+    ensures { result ≡ answered at (one_flag p (drop at (bit_list bits.now))) }
 {
-    if bits.len() <= at / 8 {
-        return PrecisionAnswer::Refused(Refusal::Truncated);
-    }
-    let next = at + 1;
-    if bit_at(bits, at) {
-        return PrecisionAnswer::Precision(p, next);
-    }
-    PrecisionAnswer::Precision(Svq3MvPrecision::Fullpel, next)
+    let (set, next) = read_bit(bits, at)?;
+    Ok((if set { p } else { Svq3MvPrecision::Fullpel }, next))
 }
 
 // Both flags are set.
-fn both_flags(bits: &[u8], at: usize) -> PrecisionAnswer
+fn both_flags(bits: &[u8], at: usize) -> Result<(Svq3MvPrecision, usize), Refusal>
     requires { length bits.now < 2 ^ 61 }
-    ensures { result ≡ precision_answer at (both_flags (drop at (bit_list bits.now))) }
+    ensures { result ≡ answered at (both_flags (drop at (bit_list bits.now))) }
 {
-    let n = bits.len();
-    if n <= at / 8 {
-        return PrecisionAnswer::Refused(Refusal::Truncated);
+    let (coarse, second) = read_bit(bits, at)?;
+    if !coarse {
+        return Ok((Svq3MvPrecision::Thirdpel, second));
     }
-    let second = at + 1;
-    if !bit_at(bits, at) {
-        return PrecisionAnswer::Precision(Svq3MvPrecision::Thirdpel, second);
-    }
-    if n <= second / 8 {
-        return PrecisionAnswer::Refused(Refusal::Truncated);
-    }
-    let next = second + 1;
-    if bit_at(bits, second) {
-        return PrecisionAnswer::Precision(Svq3MvPrecision::Fullpel, next);
-    }
-    PrecisionAnswer::Precision(Svq3MvPrecision::Halfpel, next)
+    let (full, next) = read_bit(bits, second)?;
+    Ok((
+        if full {
+            Svq3MvPrecision::Fullpel
+        } else {
+            Svq3MvPrecision::Halfpel
+        },
+        next,
+    ))
 }

@@ -10,7 +10,7 @@ ghost use Rattle.picture.specs.InnerField.{lent_field};
 ghost use Rattle.vectors.specs.Predict.{vector, cell_at, above_left_of, combined, predictor};
 ghost use Rattle.vectors.specs.InnerWindow.{Window, Seen, Part, pair_set, corner_pairs, corner_marks};
 
-use crate::svq3_frame::{Near, Sixths, Vector, combined, held_in, median_of};
+use crate::svq3_frame::{Sixths, Vector, combined, held_in, median_of};
 use picture::Grid;
 
 // The cell above and to the left of (x, y), as cell k of the window; marked 0 off the picture.
@@ -150,19 +150,15 @@ pub fn load_neighbours(
 }
 
 // The vector of cell i of the window.
-fn mv_block(near: &[i32; 60], marked: &[u8; 30], i: usize) -> Near
+fn mv_block(near: &[i32; 60], marked: &[u8; 30], i: usize) -> Option<Vector>
     requires { i < 30 }
     ensures { result ≡ cell_at near.now marked.now i }
 {
     if marked[i] == 0 {
-        return Near::Missing;
+        None
+    } else {
+        Some(vector_at(near, i))
     }
-    let x = near[2 * i];
-    let y = near[2 * i + 1];
-    Near::Here(Vector {
-        x: Sixths(x),
-        y: Sixths(y),
-    })
 }
 
 // The numbers of cell i, whatever its mark.

@@ -1,31 +1,37 @@
--- `vectors::svq3_mb::both_flags` answers `both_flags` at its place.
-use mathlib.Core.Path.{sym, ◌∙◌}
-use Rattle.vectors.proofs.Flags.{both_end, third, cut_off, full, half}
+-- `vectors::svq3_mb::both_flags` answers `both_flags` at its place, by the bit or the two bits there.
+use mathlib.Core.Path.{◌≡◌, sym, ◌∙◌}
+use mathlib.Core.Bool.{true}
+use lib.ListN.{drop}
+use Rattle.std.specs.Prelude.{Ok}
+use Rattle.refusal.specs.Answered.{answered}
+use Rattle.refusal.proofs.Answered.{handed}
+use Rattle.bits.specs.Bits.{bit_list}
+use Rattle.vectors.specs.InnerPrecision.{first_bit}
+use Rattle.vectors.proofs.Flags.{both_end, third, cut_off, second-bit}
+use Rattle.vectors.proofs.svq3_mb.both_flags.Goals.{Else-not-coarse}
 use Rattle.vectors.proofs.svq3_mb.both_flags.Goals as goal
 
-pub returns-then-n-at : goal.returns-then-n-at
-returns-then-n-at c = let a = c.args in sym (both_end a.bits.now a.at c.if-n-at.true)
+-- the first bit is set
+set : (c : Else-not-coarse) → let a = c.args in Ok (true, c.in_ok-coarse.second) ≡ answered a.at (first_bit (drop a.at (bit_list a.bits.now)))
+set c = rw c.if-not-coarse.false at (sym c.in_ok-coarse.was ∙ c.read_bit.ensures)
 
-pub returns-then-not-bit_at : goal.returns-then-not-bit_at
-returns-then-not-bit_at c =
-    let a = c.args in
-    sym (third a.bits.now a.at c.if-n-at.false (sym c.if-not-bit_at.true ∙ c.bit_at.ensures))
+pub returns-in_err-coarse : goal.returns-in_err-coarse
+returns-in_err-coarse c = let a = c.args in handed _ _ c.from_residual.ensures ∙ both_end (bit_list a.bits.now) a.at _ (sym c.in_err-coarse.was ∙ c.read_bit.ensures)
 
-pub returns-then-n-second : goal.returns-then-n-second
-returns-then-n-second c =
-    let a = c.args in
-    sym (cut_off a.bits.now a.at c.if-n-at.false (sym c.if-not-bit_at.false ∙ c.bit_at.ensures) c.if-n-second.true)
+pub returns-then-not-coarse : goal.returns-then-not-coarse
+returns-then-not-coarse c = let a = c.args in third (bit_list a.bits.now) a.at _ (rw c.if-not-coarse.true at (sym c.in_ok-coarse.was ∙ c.read_bit.ensures))
 
-pub returns-then-bit_at : goal.returns-then-bit_at
-returns-then-bit_at c =
+pub returns-in_err-full : goal.returns-in_err-full
+returns-in_err-full c =
     let a = c.args in
-    sym (full a.bits.now a.at c.if-n-at.false
-    (sym c.if-not-bit_at.false ∙ c.bit_at.ensures)
-    c.if-n-second.false (sym c.if-bit_at.true ∙ c.bit_at-2.ensures))
+    handed _ _ c.from_residual-in_err-full.ensures ∙ cut_off (bit_list a.bits.now) a.at _ (set (goal.at.returns-in_err-full c).Else-not-coarse) _ (sym c.in_err-full.was ∙ c.read_bit-2.ensures)
 
-pub returns : goal.returns
-returns c =
+pub returns-then-full : goal.returns-then-full
+returns-then-full c =
     let a = c.args in
-    sym (half a.bits.now a.at c.if-n-at.false
-    (sym c.if-not-bit_at.false ∙ c.bit_at.ensures)
-    c.if-n-second.false (sym c.if-bit_at.false ∙ c.bit_at-2.ensures))
+    rw c.if-full.true at (second-bit (bit_list a.bits.now) a.at _ (set (goal.at.returns-then-full c).Else-not-coarse) _ _ (sym c.in_ok-full.was ∙ c.read_bit-2.ensures))
+
+pub returns-else-full : goal.returns-else-full
+returns-else-full c =
+    let a = c.args in
+    rw c.if-full.false at (second-bit (bit_list a.bits.now) a.at _ (set (goal.at.returns-else-full c).Else-not-coarse) _ _ (sym c.in_ok-full.was ∙ c.read_bit-2.ensures))

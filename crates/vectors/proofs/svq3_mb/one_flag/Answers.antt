@@ -1,17 +1,22 @@
--- `vectors::svq3_mb::one_flag` answers `one_flag` at its place.
+-- `vectors::svq3_mb::one_flag` answers `one_flag` at its place, by the bit there.
 use mathlib.Core.Path.{sym, ◌∙◌}
-use Rattle.vectors.proofs.Flags.{one-ends, one_set, one-clear}
+use lib.ListN.{drop}
+use Rattle.refusal.proofs.Answered.{handed}
+use Rattle.bits.specs.Bits.{bit_list}
+use Rattle.vectors.proofs.Flags.{one-ends, one_read}
 use Rattle.vectors.proofs.svq3_mb.one_flag.Goals as goal
 
-pub returns-then-bits-at : goal.returns-then-bits-at
-returns-then-bits-at c = let a = c.args in sym (one-ends a.bits.now a.at a.p c.if-bits-at.true)
-
-pub returns-then-bit_at : goal.returns-then-bit_at
-returns-then-bit_at c =
+pub returns-in_err-set : goal.returns-in_err-set
+returns-in_err-set c =
     let a = c.args in
-    sym (one_set a.bits.now a.at c.if-bits-at.false a.p (sym c.if-bit_at.true ∙ c.bit_at.ensures))
+    handed _ _ c.from_residual.ensures ∙ one-ends a.p a.at (drop a.at (bit_list a.bits.now)) _ (sym c.in_err-set.was ∙ c.read_bit.ensures)
 
-pub returns : goal.returns
-returns c =
+pub returns-then-set : goal.returns-then-set
+returns-then-set c =
     let a = c.args in
-    sym (one-clear a.bits.now a.at c.if-bits-at.false a.p (sym c.if-bit_at.false ∙ c.bit_at.ensures))
+    rw c.if-set.true at (one_read a.p a.at (drop a.at (bit_list a.bits.now)) _ _ (sym c.in_ok-set.was ∙ c.read_bit.ensures))
+
+pub returns-else-set : goal.returns-else-set
+returns-else-set c =
+    let a = c.args in
+    rw c.if-set.false at (one_read a.p a.at (drop a.at (bit_list a.bits.now)) _ _ (sym c.in_ok-set.was ∙ c.read_bit.ensures))

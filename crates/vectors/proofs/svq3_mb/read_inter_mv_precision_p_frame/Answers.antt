@@ -1,23 +1,20 @@
 -- `vectors::svq3_mb::read_inter_mv_precision_p_frame` answers `precision` at its place, by the flags.
-use mathlib.Core.Path.{sym, ap}
 use native.Mathlib.Nat.{add-zero}
 use Rattle.vectors.specs.Precision.{precision}
-use Rattle.vectors.specs.declared.svq3_mb.Svq3MvPrecision.TheVariants.{Fullpel}
-use Rattle.vectors.specs.declared.svq3_mb.PrecisionAnswer.TheVariants.{Precision}
 use Rattle.vectors.proofs.svq3_mb.read_inter_mv_precision_p_frame.Goals as goal
 
-pub returns-then-thirdpel : goal.returns-then-thirdpel
+pub returns-in-true-true : goal.returns-in-true-true
 unfolding precision
-returns-then-thirdpel c = rw (c.if-halfpel.true, c.if-thirdpel.true) c.both_flags.ensures
+returns-in-true-true c = rw (c.in-true-true.is-0, c.in-true-true.is-1) c.both_flags.ensures
 
-pub returns-then-halfpel : goal.returns-then-halfpel
+pub returns-in-true-false : goal.returns-in-true-false
 unfolding precision
-returns-then-halfpel c = rw (c.if-halfpel.true, c.if-thirdpel.false) c.one_flag.ensures
+returns-in-true-false c = rw (c.in-true-false.is-0, c.in-true-false.is-1) c.one_flag.ensures
 
-pub returns-then-thirdpel-2 : goal.returns-then-thirdpel-2
+pub returns-in-false-true : goal.returns-in-false-true
 unfolding precision
-returns-then-thirdpel-2 c = rw (c.if-halfpel.false, c.if-thirdpel-2.true) c.one_flag-then-thirdpel-2.ensures
+returns-in-false-true c = rw (c.in-false-true.is-0, c.in-false-true.is-1) c.one_flag-in-false-true.ensures
 
-pub returns : goal.returns
+pub returns-in-false-false : goal.returns-in-false-false
 unfolding precision
-returns c = rw (c.if-halfpel.false, c.if-thirdpel-2.false) (ap (Precision Fullpel) (sym (add-zero c.args.at)))
+returns-in-false-false c = rw (c.in-false-false.is-0, c.in-false-false.is-1, add-zero)
