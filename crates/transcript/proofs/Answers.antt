@@ -11,7 +11,7 @@ use Rattle.record.specs.Record.{Record}
 use Rattle.record.specs.InnerRecord.{record_of}
 use Rattle.record.specs.declared.Head.{Head}
 use Rattle.transcript.specs.InnerParsing.{Parsing}
-use Rattle.std.specs.Prelude.{Result, Ok, Err}
+use Rattle.std.specs.Prelude.{Ok, Err}
 
 -- a record was answered: the definition gives it, with the vectors and levels that are left, and the place moved by what it took
 pub record ParsedBy (at : ℕ) (g : Got Record) (h : Head) (next : ℕ) (vs ls : List ℤ) : Type 0 where
@@ -22,11 +22,12 @@ pub record ParsedBy (at : ℕ) (g : Got Record) (h : Head) (next : ℕ) (vs ls :
 pub parsed : (at : ℕ) (g : Got Record) (h : Head) (next : ℕ) (vs ls : List ℤ) → Parsing at g (Ok (h, next)) vs ls → ParsedBy at g h next vs ls
 parsed at (got r n) h next vs ls p =
     let l = p.leaves r n refl in
-    let e : h ≡ r.head = (let a = p.answers in cc) in
+    let same : (r.head, at + n) ≡ (h, next) = (let a = p.answers in cc) in
+    let e : h ≡ r.head = sym (ap (λ (q : Head × ℕ). q.0) same) in
     record {
       taken = n;
       is = sym (ap (λ (x : Head). got (record_of x vs ls) n) e ∙ ap (λ (x : List ℤ). got (record_of r.head x ls) n) l.0 ∙ ap (λ (x : List ℤ). got (record_of r.head r.vectors x) n) l.1);
-      moved = (let a = p.answers in cc);
+      moved = sym (ap (λ (q : Head × ℕ). q.1) same);
     }
 parsed at (refused x) h next vs ls p = absurd (let a = p.answers in let z : ◌≡◌ {A = ℕ} 0 1 = cc in omega arith)
 

@@ -16,7 +16,7 @@ use Rattle.refusal.specs.Until.{until_end}
 use Rattle.state.specs.Questions.{grid_right}
 use Rattle.transcript.specs.Records.{records_in, records}
 use Rattle.transcript.specs.Check.{checked}
-use Rattle.std.specs.Prelude.{Result, Ok, Err}
+use Rattle.std.specs.Prelude.{Ok, Err}
 
 -- document 01's record, and a skip behind it
 unfoldable pub one : List ℕ

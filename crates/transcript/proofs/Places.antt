@@ -12,15 +12,14 @@ use lib.IntN.{ℤ}
 use lib.ListN.{drop}
 use lib.Seq.{drop-drop}
 use Rattle.ints.specs.Z.{when◌then◌else◌}
-use Rattle.refusal.specs.Got.{Got, got, refused, after, and_then}
+use Rattle.refusal.specs.Got.{Got, got, refused, after, and_then, map_got}
 use Rattle.refusal.specs.declared.Refusal.{Refusal}
-use Rattle.refusal.specs.declared.Refusal.TheVariants.{NumberForm, FieldRange}
+use Rattle.refusal.specs.declared.Refusal.TheVariants.{FieldRange}
 use Rattle.refusal.proofs.Formats.{got-value, never}
 use Rattle.number.specs.Number.{read_number}
 use Rattle.refusal.specs.Answered.{answered}
 use Rattle.std.specs.Prelude.{Result, Ok, Err}
 use Rattle.refusal.proofs.Answered.{Answered, answered-got, answered-refused}
-use Rattle.number.proofs.Numbers.{refused-form}
 use Rattle.levels.proofs.Gots.{after-zero, after-after}
 use Rattle.record.specs.Record.{Record, place_head, skip_record}
 use Rattle.record.specs.Parse.{parse_motion, parse_record}
@@ -118,17 +117,14 @@ module _ (at : ℕ) (s : List ℕ) (k : ℕ → List ℕ → Got Head) where
       sym (ap (λ (g : Got ℕ). place_answer at (and_then g (drop at s) k)) a.is ∙ answer-on at a.taken (k v (drop a.taken (drop at s)))
       ∙ ap (λ (u : List ℕ). place_answer (at + a.taken) (k v u)) (drop-drop a.taken at s) ∙ ap (λ (i : ℕ). place_answer i (k v (drop i s))) (sym a.moved))
 
-  -- what is no number is refused as 14
-  no_number : (r : Refusal) → Err r ≡ answered at (read_number (drop at s)) → Err NumberForm ≡ place_answer at (and_then (read_number (drop at s)) (drop at s) k)
-  no_number r e =
-      let f = answered-refused at (read_number (drop at s)) r e in
-      sym (ap (λ (g : Got ℕ). place_answer at (and_then g (drop at s) k)) (f ∙ ap refused (refused-form (drop at s) r f)))
+  no_number : (r : Refusal) → Err r ≡ answered at (read_number (drop at s)) → Err r ≡ place_answer at (and_then (read_number (drop at s)) (drop at s) k)
+  no_number r e = sym (ap (λ (g : Got ℕ). place_answer at (and_then g (drop at s) k)) (answered-refused at (read_number (drop at s)) r e))
 
 module _ (cols rows : ℕ) (s : List ℕ) (at : ℕ) where
   abbrev Whole : Result (RecordStart × ℕ) Refusal → Type 0
   Whole answer = answer ≡ place_answer at (parse_place cols rows (drop at s))
 
-  pub no-column : (r : Refusal) → Err r ≡ answered at (read_number (drop at s)) → Err NumberForm ≡ place_answer at (parse_place cols rows (drop at s))
+  pub no-column : (r : Refusal) → Err r ≡ answered at (read_number (drop at s)) → Err r ≡ place_answer at (parse_place cols rows (drop at s))
   unfolding parse_place
   no-column r e = no_number at s (behind_column cols rows) r e
 
@@ -137,15 +133,15 @@ module _ (cols rows : ℕ) (s : List ℕ) (at : ℕ) where
     unfolding parse_place
     with-column answer k = k ∙ number-then at s (behind_column cols rows) column p e
 
-    pub no_row : (r : Refusal) → Err r ≡ answered p (read_number (drop p s)) → Whole (Err NumberForm)
-    no_row r f = with-column (Err NumberForm) (no_number p s (behind_row cols rows column) r f)
+    pub no_row : (r : Refusal) → Err r ≡ answered p (read_number (drop p s)) → Whole (Err r)
+    no_row r f = with-column (Err r) (no_number p s (behind_row cols rows column) r f)
 
     module _ (row q : ℕ) (f : Ok (row, q) ≡ answered p (read_number (drop p s))) where
       with_row : (answer : Result (RecordStart × ℕ) Refusal) → answer ≡ place_answer q (behind_row cols rows column row (drop q s)) → Whole answer
       with_row answer k = with-column answer (k ∙ number-then p s (behind_row cols rows column) row q f)
 
-      pub no_mode : (r : Refusal) → Err r ≡ answered q (read_number (drop q s)) → Whole (Err NumberForm)
-      no_mode r g = with_row (Err NumberForm) (no_number q s (behind_mode cols rows column row) r g)
+      pub no_mode : (r : Refusal) → Err r ≡ answered q (read_number (drop q s)) → Whole (Err r)
+      no_mode r g = with_row (Err r) (no_number q s (behind_mode cols rows column row) r g)
 
       module _ (mode next : ℕ) (g : Ok (mode, next) ≡ answered q (read_number (drop q s))) where
         with_mode : (t : Bool) → judge cols rows column row mode ≡ t → (answer : Result (RecordStart × ℕ) Refusal) → answer ≡ place_answer next (when t then got (place_head column row mode) 0 else refused FieldRange) → Whole answer

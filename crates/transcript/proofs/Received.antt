@@ -15,7 +15,7 @@ use Rattle.refusal.specs.Got.{got, map_got}
 use Rattle.number.specs.SignedNumber.{received, read_signed}
 use Rattle.number.proofs.Numbers.{lt-or-le, read-last}
 use Rattle.levels.specs.Levels.{zeros}
-use Rattle.std.specs.Prelude.{Result, Ok, Err}
+use Rattle.std.specs.Prelude.{Ok}
 use Rattle.record.specs.Parse.{read_signeds}
 use Rattle.levels.specs.InnerAnswers.{Left}
 use Rattle.levels.proofs.ItemAnswers.{left_end}

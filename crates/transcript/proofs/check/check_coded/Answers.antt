@@ -10,8 +10,8 @@ pub parse_motion-requires : goal.parse_motion-requires
 unfolding no_vectors no_levels
 parse_motion-requires c = (refl, refl, c.requires)
 
-pub returns-in_err-parse_motion : goal.returns-in_err-parse_motion
-returns-in_err-parse_motion c = handed _ _ c.from_residual.ensures ∙ rest-refused c.parse_motion.ensures _ c.in_err-parse_motion.was
+pub returns-in_err-next : goal.returns-in_err-next
+returns-in_err-next c = handed _ _ c.from_residual.ensures ∙ rest-refused c.parse_motion.ensures _ c.in_err-next.was
 
 pub returns : goal.returns
-returns c = rest_read c.parse_motion.ensures _ _ c.in_ok-parse_motion.was
+returns c = rest_read c.parse_motion.ensures _ _ c.in_ok-next.was

@@ -5,7 +5,7 @@ use Rattle.refusal.proofs.Lists.{Counting}
 use Rattle.record.specs.Parse.{parse_record}
 use Rattle.transcript.specs.Records.{records}
 use Rattle.transcript.specs.Check.{check_answer}
-use Rattle.std.specs.Prelude.{Result, Ok, Err}
+use Rattle.std.specs.Prelude.{Ok, Err}
 use Rattle.transcript.proofs.check.check_records.Given as goal
 
 abbrev pub invariant-loop-at : goal.invariant-loop-at

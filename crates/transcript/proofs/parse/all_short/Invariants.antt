@@ -1,6 +1,6 @@
 -- `transcript::parse::all_short`: one byte a turn.
 use mathlib.Core.Path.{◌≡◌}
-use Prim.Native.Nat.{◌≤◌, ◌-◌}
+use Prim.Native.Nat.{◌≤◌}
 use Rattle.transcript.specs.InnerReceived.{short_received}
 use Rattle.transcript.proofs.parse.all_short.Given as goal
 

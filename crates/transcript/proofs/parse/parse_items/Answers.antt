@@ -15,12 +15,12 @@ parse_item-requires c = (c.loop-i-test.true, c.loop-i.invariant.1)
 pub overflow_add-i : goal.overflow_add-i
 overflow_add-i c = omega (arith, c.loop-i-test.true)
 
-pub loop-i-smaller-in_ok-p : goal.loop-i-smaller-in_ok-p
-loop-i-smaller-in_ok-p c = omega (arith, c.loop-i-test.true)
+pub loop-i-smaller-then-item_coded : goal.loop-i-smaller-then-item_coded
+loop-i-smaller-then-item_coded c = omega (arith, c.loop-i-test.true)
 
-pub loop-i-preserved-in_ok-p : goal.loop-i-preserved-in_ok-p
+pub loop-i-preserved-then-item_coded : goal.loop-i-preserved-then-item_coded
 unfolding parse_items
-loop-i-preserved-in_ok-p c =
+loop-i-preserved-then-item_coded c =
     let l = c.loop-i in
     let r = c.parse_item in
     (goes_on parse_item _ l.invariant.0 _ _ _ c.loop-i-test.true (sym c.item_coded.ensures ∙ c.if-item_coded.true) c.in_ok-p.was r.ensures, r.auto.levels ∙ l.invariant.1)

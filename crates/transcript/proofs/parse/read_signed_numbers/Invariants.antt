@@ -1,5 +1,4 @@
 -- `transcript::parse::read_signed_numbers`: the numbers that are stored, joined to those still to be read, are all of them.
-use Prim.Native.Nat.{◌-◌}
 use Rattle.transcript.proofs.Reading.{Taking}
 use Rattle.transcript.proofs.parse.read_signed_numbers.Given as goal
 

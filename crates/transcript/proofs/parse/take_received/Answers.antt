@@ -1,10 +1,9 @@
 -- `transcript::parse::take_received`: one byte a turn.
-use mathlib.Core.Path.{◌≡◌, refl, ap, ◌∙◌}
+use mathlib.Core.Path.{◌≡◌, refl, ◌∙◌}
 use native.Mathlib.Omega.{arith}
 use borrow.Author.Rules.{rules}
 use mir.Syntax.{w32}
 use mir.Val.{to_z, of_z}
-use Rattle.number.specs.SignedNumber.{received}
 use Rattle.transcript.proofs.Received.{received-turn}
 use Rattle.transcript.proofs.parse.take_received.Goals as goal
 

@@ -1,5 +1,5 @@
 -- `transcript::parse::take_received`: one byte a turn.
-use Prim.Native.Nat.{◌≤◌, ◌-◌}
+use Prim.Native.Nat.{◌≤◌}
 use Rattle.transcript.specs.InnerReceived.{Received}
 use Rattle.transcript.proofs.parse.take_received.Given as goal
 

@@ -1,6 +1,6 @@
 -- `transcript::write::all_short`: one number a turn.
 use mathlib.Core.Path.{◌≡◌}
-use Prim.Native.Nat.{◌≤◌, ◌-◌}
+use Prim.Native.Nat.{◌≤◌}
 use Rattle.transcript.specs.InnerSent.{short_sent}
 use Rattle.transcript.proofs.write.all_short.Given as goal
 

@@ -1,6 +1,6 @@
 -- `transcript::write::put_short`: one byte a turn.
 use mathlib.Core.Path.{◌≡◌}
-use Prim.Native.Nat.{◌≤◌, ◌-◌}
+use Prim.Native.Nat.{◌≤◌}
 use mathlib.Core.List.{map}
 use lib.ListN.{length, take}
 use lib.Seq.{sets}

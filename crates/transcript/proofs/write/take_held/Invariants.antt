@@ -1,5 +1,5 @@
 -- `transcript::write::take_held`: one number a turn.
-use Prim.Native.Nat.{◌≤◌, ◌-◌}
+use Prim.Native.Nat.{◌≤◌}
 use Rattle.transcript.specs.InnerSent.{Held}
 use Rattle.transcript.proofs.write.take_held.Given as goal
 
