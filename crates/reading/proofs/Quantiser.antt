@@ -21,14 +21,12 @@ use Rattle.refusal.specs.declared.Refusal.TheVariants.{InvalidQuantiser}
 use Rattle.refusal.proofs.Formats.{got-value, got-count, never}
 use Rattle.refusal.proofs.Local.{apart, Took, took-none, took-format}
 use Rattle.bits.specs.Signed.{signed_code, signed_bits}
-use Rattle.bits.specs.InnerSigned.{signed_answer}
-use Rattle.bits.specs.declared.svq3_mv.SignedAnswer.TheVariants as signed
-use Rattle.bits.proofs.Answers.{Answered, signed-answered, signed-refused}
+use Rattle.refusal.specs.Answered.{answered}
+use Rattle.std.specs.Prelude.{Ok, Err}
+use Rattle.refusal.proofs.Answered.{Answered, answered-got, answered-refused}
 use Rattle.bits.proofs.SignedCode.{signed-format}
 use Rattle.reading.specs.Read.{quantiser_in, read_quantiser}
 use Rattle.reading.specs.Bits.{quantiser_bits}
-use Rattle.reading.specs.InnerAnswers.{quantiser_answer}
-use Rattle.reading.specs.declared.svq3_frame.QuantiserAnswer.TheVariants.{Quantiser, Refused}
 
 -- a quantiser that was taken is the exact value, 0 to 31, and takes no bits of its own
 record Held (z : ℤ) (q n : ℕ) : Type 0 where
@@ -87,36 +85,27 @@ in-range-cast (pos a) e = (tt, record { fits = omega (arith, ltb-true a 32 (seco
 in-range-cast (negsuc a) e = absurd (false≢true e)
 
 module _ (delta : Bool) (q pattern at : ℕ) (s : List Bool) where
-  pub no-delta : (not (eqb pattern 0) && delta) ≡ false → Quantiser q at ≡ quantiser_answer at (read_quantiser delta q pattern s)
+  pub no-delta : (not (eqb pattern 0) && delta) ≡ false → Ok (q, at) ≡ answered at (read_quantiser delta q pattern s)
   unfolding read_quantiser
-  no-delta t = sym (ap (quantiser_answer at) (if_no _ _ _ t) ∙ ap (Quantiser q) (add-zero at))
+  no-delta t = sym (ap (answered at) (if_no _ _ _ t) ∙ ap (λ (n : ℕ). Ok (q, n)) (add-zero at))
 
   module _ (t : (not (eqb pattern 0) && delta) ≡ true) where
-    pub delta-refused : (r : Refusal) → signed.Refused r ≡ signed_answer at (signed_code s) → Refused r ≡ quantiser_answer at (read_quantiser delta q pattern s)
+    pub delta-refused : (r : Refusal) → Err r ≡ answered at (signed_code s) → Err r ≡ answered at (read_quantiser delta q pattern s)
     unfolding read_quantiser
-    delta-refused r e = sym (ap (quantiser_answer at) (if_yes _ _ _ t ∙ ap (λ (g : Got ℤ). and_then g s (λ d rest. quantiser_in (pos q +ℤ d))) (signed-refused at (signed_code s) r e)))
+    delta-refused r e = sym (ap (answered at) (if_yes _ _ _ t ∙ ap (λ (g : Got ℤ). and_then g s (λ d rest. quantiser_in (pos q +ℤ d))) (answered-refused at (signed_code s) r e)))
 
     -- z is the exact value
-    module _ (d z : ℤ) (next : ℕ) (e : signed.Value d next ≡ signed_answer at (signed_code s)) (i : z ≡ pos q +ℤ d) where
+    module _ (d z : ℤ) (next : ℕ) (e : Ok (d, next) ≡ answered at (signed_code s)) (i : z ≡ pos q +ℤ d) where
       with-delta : (a : Answered at (signed_code s) d next) → read_quantiser delta q pattern s ≡ after a.taken (quantiser_in z)
       unfolding read_quantiser
       with-delta a = if_yes _ _ _ t ∙ ap (λ (g : Got ℤ). and_then g s (λ d rest. quantiser_in (pos q +ℤ d))) a.is ∙ ap (λ (y : ℤ). after a.taken (quantiser_in y)) (sym i)
 
-      pub delta-in : in_range z ≡ true → Quantiser (nat_abs z) next ≡ quantiser_answer at (read_quantiser delta q pattern s)
+      pub delta-in : in_range z ≡ true → Ok (nat_abs z, next) ≡ answered at (read_quantiser delta q pattern s)
       unfolding quantiser_in
       delta-in h =
-          let a = signed-answered at (signed_code s) d next e in
-          ap (Quantiser (nat_abs z)) (a.moved ∙ ap (λ (n : ℕ). at + n) (sym (add-zero a.taken))) ∙ sym (ap (quantiser_answer at) (with-delta a ∙ ap (after a.taken) (if_yes _ _ _ (tested z true h))))
+          let a = answered-got at (signed_code s) d next e in
+          ap (λ (n : ℕ). Ok (nat_abs z, n)) (a.moved ∙ ap (λ (n : ℕ). at + n) (sym (add-zero a.taken))) ∙ sym (ap (answered at) (with-delta a ∙ ap (after a.taken) (if_yes _ _ _ (tested z true h))))
 
-      pub delta-out : in_range z ≡ false → Refused (InvalidQuantiser z) ≡ quantiser_answer at (read_quantiser delta q pattern s)
+      pub delta-out : in_range z ≡ false → Err (InvalidQuantiser z) ≡ answered at (read_quantiser delta q pattern s)
       unfolding quantiser_in
-      delta-out h = let a = signed-answered at (signed_code s) d next e in sym (ap (quantiser_answer at) (with-delta a ∙ ap (after a.taken) (if_no _ _ _ (tested z false h))))
-
--- what was answered
-pub quantiser-answered : (at : ℕ) (g : Got ℕ) (q next : ℕ) → Quantiser q next ≡ quantiser_answer at g → Answered at g q next
-quantiser-answered at (got p n) q next e = record { taken = n; is = ap (λ (t : ℕ). got t n) (cc); moved = cc }
-quantiser-answered at (refused r) q next e = absurd (let z : ◌≡◌ {A = ℕ} 0 1 = cc in omega arith)
-
-pub quantiser-refused : (at : ℕ) (g : Got ℕ) (r : Refusal) → Refused r ≡ quantiser_answer at g → g ≡ refused r
-quantiser-refused at (got p n) r e = absurd (let z : ◌≡◌ {A = ℕ} 0 1 = cc in omega arith)
-quantiser-refused at (refused x) r e = ap refused (cc)
+      delta-out h = let a = answered-got at (signed_code s) d next e in sym (ap (answered at) (with-delta a ∙ ap (after a.taken) (if_no _ _ _ (tested z false h))))

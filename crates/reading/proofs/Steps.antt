@@ -9,57 +9,58 @@ use native.Mathlib.Omega.{arith}
 use lib.IntN.{ℤ}
 use lib.ListN.{drop}
 use lib.Seq.{drop-drop}
-use Rattle.refusal.specs.Got.{Got, got, refused, after, and_then}
+use Rattle.refusal.specs.Got.{Got, got, refused, after, and_then, map_got}
 use Rattle.refusal.specs.declared.Refusal.{Refusal}
 use Rattle.refusal.proofs.Formats.{got-value, never}
 use Rattle.bits.specs.Signed.{signed_code}
-use Rattle.bits.specs.InnerSigned.{signed_answer}
-use Rattle.bits.specs.declared.svq3_mv.SignedAnswer.TheVariants as signed
-use Rattle.bits.proofs.Answers.{Answered, signed-answered, signed-refused}
+use Rattle.refusal.specs.Answered.{answered}
+use Rattle.std.specs.Prelude.{Result, Ok, Err}
+use Rattle.refusal.proofs.Answered.{Answered, answered-got, answered-refused}
 use Rattle.levels.proofs.Gots.{after-zero, after-after}
 use Rattle.reading.specs.Read.{Moving, moved, read_vectors}
 use Rattle.reading.specs.InnerAnswers.{vectors_answer, Holds, Stepping, Vectoring}
 use Rattle.reading.specs.declared.svq3_frame.Motion.{Motion}
-use Rattle.reading.specs.declared.svq3_frame.VectorsAnswer.{VectorsAnswer}
-use Rattle.reading.specs.declared.svq3_frame.VectorsAnswer.TheVariants.{Vectors, Refused}
+use Rattle.refusal.proofs.Lists.{mapped}
 use Rattle.reading.proofs.Vectors.{grown}
 
 -- ---- what an answer says of the definition, and the other way round
-pub vectors-answered : (at : ℕ) (g : Got Moving) (k next : ℕ) → Vectors k next ≡ vectors_answer at g → (m : Moving) × Answered at g m next × (k ≡ m.clipped)
-vectors-answered at (got m n) k next e = (m, record { taken = n; is = refl; moved = cc }, cc)
-vectors-answered at (refused r) k next e = absurd (let z : ◌≡◌ {A = ℕ} 0 1 = cc in omega arith)
+pub vectors-answered : (at : ℕ) (g : Got Moving) (k next : ℕ) → Ok (k, next) ≡ vectors_answer at g → (m : Moving) × Answered at g m next × (k ≡ m.clipped)
+vectors-answered at g k next e =
+    let a = answered-got at (map_got (λ (m : Moving). m.clipped) g) k next e in
+    let m = mapped (λ (m : Moving). m.clipped) g k a.taken a.is in
+    (m.0, record { taken = a.taken; is = m.1; moved = a.moved }, sym m.2)
 
-pub vectors-refused : (at : ℕ) (g : Got Moving) (r : Refusal) → Refused r ≡ vectors_answer at g → g ≡ refused r
+pub vectors-refused : (at : ℕ) (g : Got Moving) (r : Refusal) → Err r ≡ vectors_answer at g → g ≡ refused r
 vectors-refused at (got m n) r e = absurd (let z : ◌≡◌ {A = ℕ} 0 1 = cc in omega arith)
 vectors-refused at (refused x) r e = ap refused (cc)
 
-answer-of : (at : ℕ) (g : Got Moving) (m : Moving) (k next : ℕ) → Answered at g m next → k ≡ m.clipped → Vectors k next ≡ vectors_answer at g
-answer-of at g m k next a e = ap₂ Vectors e a.moved ∙ sym (ap (vectors_answer at) a.is)
+answer-of : (at : ℕ) (g : Got Moving) (m : Moving) (k next : ℕ) → Answered at g m next → k ≡ m.clipped → Ok (k, next) ≡ vectors_answer at g
+answer-of at g m k next a e = ap₂ (λ (c n : ℕ). Ok (c, n)) e a.moved ∙ sym (ap (vectors_answer at) a.is)
 
 -- ---- one partition
 module _ (motion : Motion) (i : ℕ) (m : Moving) (s : List Bool) (at : ℕ) where
   abbrev behind-dy : ℤ → List Bool → Got Moving
   behind-dy dy u = and_then (signed_code u) u (λ dx rest. got (moved motion.call motion.precision i m dy dx) 0)
 
-  no-vertical : (r : Refusal) → signed.Refused r ≡ signed_answer at (signed_code (drop at s)) → read_vectors motion.call motion.precision 1 i m (drop at s) ≡ refused r
+  no-vertical : (r : Refusal) → Err r ≡ answered at (signed_code (drop at s)) → read_vectors motion.call motion.precision 1 i m (drop at s) ≡ refused r
   unfolding read_vectors
-  no-vertical r e = ap (λ (g : Got ℤ). and_then g (drop at s) behind-dy) (signed-refused at (signed_code (drop at s)) r e)
+  no-vertical r e = ap (λ (g : Got ℤ). and_then g (drop at s) behind-dy) (answered-refused at (signed_code (drop at s)) r e)
 
-  module _ (dy : ℤ) (q : ℕ) (e : signed.Value dy q ≡ signed_answer at (signed_code (drop at s))) where
+  module _ (dy : ℤ) (q : ℕ) (e : Ok (dy, q) ≡ answered at (signed_code (drop at s))) where
     vertical : (a : Answered at (signed_code (drop at s)) dy q) → read_vectors motion.call motion.precision 1 i m (drop at s) ≡ after a.taken (behind-dy dy (drop q s))
     unfolding read_vectors
     vertical a =
         ap (λ (g : Got ℤ). and_then g (drop at s) behind-dy) a.is ∙ ap (λ (u : List Bool). after a.taken (behind-dy dy u)) (drop-drop a.taken at s ∙ ap (λ (n : ℕ). drop n s) (sym a.moved))
 
-    no-horizontal : (r : Refusal) → signed.Refused r ≡ signed_answer q (signed_code (drop q s)) → read_vectors motion.call motion.precision 1 i m (drop at s) ≡ refused r
+    no-horizontal : (r : Refusal) → Err r ≡ answered q (signed_code (drop q s)) → read_vectors motion.call motion.precision 1 i m (drop at s) ≡ refused r
     no-horizontal r f =
-        let a = signed-answered at (signed_code (drop at s)) dy q e in
-        vertical a ∙ ap (λ (g : Got ℤ). after a.taken (and_then g (drop q s) (λ dx rest. got (moved motion.call motion.precision i m dy dx) 0))) (signed-refused q (signed_code (drop q s)) r f)
+        let a = answered-got at (signed_code (drop at s)) dy q e in
+        vertical a ∙ ap (λ (g : Got ℤ). after a.taken (and_then g (drop q s) (λ dx rest. got (moved motion.call motion.precision i m dy dx) 0))) (answered-refused q (signed_code (drop q s)) r f)
 
-    both_read : (dx : ℤ) (next : ℕ) → signed.Value dx next ≡ signed_answer q (signed_code (drop q s)) → Answered at (read_vectors motion.call motion.precision 1 i m (drop at s)) (moved motion.call motion.precision i m dy dx) next
+    both_read : (dx : ℤ) (next : ℕ) → Ok (dx, next) ≡ answered q (signed_code (drop q s)) → Answered at (read_vectors motion.call motion.precision 1 i m (drop at s)) (moved motion.call motion.precision i m dy dx) next
     both_read dx next f =
-        let a = signed-answered at (signed_code (drop at s)) dy q e in
-        let b = signed-answered q (signed_code (drop q s)) dx next f in
+        let a = answered-got at (signed_code (drop at s)) dy q e in
+        let b = answered-got q (signed_code (drop q s)) dx next f in
         record {
           taken = a.taken + (b.taken + 0);
           is = vertical a ∙ ap (λ (g : Got ℤ). after a.taken (and_then g (drop q s) (λ dx rest. got (moved motion.call motion.precision i m dy dx) 0))) b.is;
@@ -68,20 +69,20 @@ module _ (motion : Motion) (i : ℕ) (m : Moving) (s : List Bool) (at : ℕ) whe
 
   -- what the reader of one partition answers and leaves
   module _ {vectors near : List ℤ} {marked : List ℕ} where
-    step-refused : (r : Refusal) → read_vectors motion.call motion.precision 1 i m (drop at s) ≡ refused r → Stepping motion at (read_vectors motion.call motion.precision 1 i m (drop at s)) (Refused r) vectors near marked
+    step-refused : (r : Refusal) → read_vectors motion.call motion.precision 1 i m (drop at s) ≡ refused r → Stepping motion at (read_vectors motion.call motion.precision 1 i m (drop at s)) (Err r) vectors near marked
     step-refused r e = record { answers = sym (ap (vectors_answer at) e); leaves = λ o n f. never (sym e ∙ f) }
 
-    pub step-no-vertical : (r : Refusal) → signed.Refused r ≡ signed_answer at (signed_code (drop at s)) → Stepping motion at (read_vectors motion.call motion.precision 1 i m (drop at s)) (Refused r) vectors near marked
+    pub step-no-vertical : (r : Refusal) → Err r ≡ answered at (signed_code (drop at s)) → Stepping motion at (read_vectors motion.call motion.precision 1 i m (drop at s)) (Err r) vectors near marked
     step-no-vertical r e = step-refused r (no-vertical r e)
 
-    pub step-no-horizontal : (dy : ℤ) (q : ℕ) → signed.Value dy q ≡ signed_answer at (signed_code (drop at s)) → (r : Refusal) → signed.Refused r ≡ signed_answer q (signed_code (drop q s))
-        → Stepping motion at (read_vectors motion.call motion.precision 1 i m (drop at s)) (Refused r) vectors near marked
+    pub step-no-horizontal : (dy : ℤ) (q : ℕ) → Ok (dy, q) ≡ answered at (signed_code (drop at s)) → (r : Refusal) → Err r ≡ answered q (signed_code (drop q s))
+        → Stepping motion at (read_vectors motion.call motion.precision 1 i m (drop at s)) (Err r) vectors near marked
     step-no-horizontal dy q e r f = step-refused r (no-horizontal dy q e r f)
 
     -- dy' and dx' are the differences as they are passed on
-    pub step-moved : (dy : ℤ) (q : ℕ) → signed.Value dy q ≡ signed_answer at (signed_code (drop at s)) → (dx : ℤ) (next : ℕ) → signed.Value dx next ≡ signed_answer q (signed_code (drop q s))
+    pub step-moved : (dy : ℤ) (q : ℕ) → Ok (dy, q) ≡ answered at (signed_code (drop at s)) → (dx : ℤ) (next : ℕ) → Ok (dx, next) ≡ answered q (signed_code (drop q s))
         → (dy' dx' : ℤ) → dy' ≡ dy → dx' ≡ dx → (k : ℕ) → Holds (moved motion.call motion.precision i m dy' dx') motion k vectors near marked
-        → Stepping motion at (read_vectors motion.call motion.precision 1 i m (drop at s)) (Vectors k next) vectors near marked
+        → Stepping motion at (read_vectors motion.call motion.precision 1 i m (drop at s)) (Ok (k, next)) vectors near marked
     step-moved dy q e dx next f dy' dx' y x k h' =
         let h = subst (λ (z : ℤ). Holds (moved motion.call motion.precision i m dy z) motion k vectors near marked) x (subst (λ (z : ℤ). Holds (moved motion.call motion.precision i m z dx') motion k vectors near marked) y h') in
         let a = both_read dy q e dx next f in
@@ -145,23 +146,23 @@ module _ (motion : Motion) where
           few = omega (arith, g.few, (grown motion.call motion.precision 1 i m m' (drop q s) a.taken a.is).at_most);
         }
 
-    module _ {vectors near : List ℤ} {marked : List ℕ} (answer : VectorsAnswer) (t : Stepping motion q (read_vectors motion.call motion.precision 1 i m (drop q s)) answer vectors near marked) where
-      pub goes_on : (k next : ℕ) → i < n → answer ≡ Vectors k next → (m' : Moving) × Going n m₀ s at (i + 1) next m' × Holds m' motion k vectors near marked
+    module _ {vectors near : List ℤ} {marked : List ℕ} (answer : Result (ℕ × ℕ) Refusal) (t : Stepping motion q (read_vectors motion.call motion.precision 1 i m (drop q s)) answer vectors near marked) where
+      pub goes_on : (k next : ℕ) → i < n → answer ≡ Ok (k, next) → (m' : Moving) × Going n m₀ s at (i + 1) next m' × Holds m' motion k vectors near marked
       goes_on k next h e =
           let a = vectors-answered q (read_vectors motion.call motion.precision 1 i m (drop q s)) k next (sym e ∙ t.answers) in
           let l = t.leaves a.0 a.1.taken a.1.is in
           (a.0, going_on a.0 next h a.1, record { count = a.2; stored = l.stored; follows = l.follows })
 
-      pub stops : (r : Refusal) (left : List ℤ) → i < n → answer ≡ Refused r → Vectoring at (read_vectors motion.call motion.precision n 0 m₀ (drop at s)) (Refused r) left
+      pub stops : (r : Refusal) (left : List ℤ) → i < n → answer ≡ Err r → Vectoring at (read_vectors motion.call motion.precision n 0 m₀ (drop at s)) (Err r) left
       stops r left h e =
           let f = vectors-refused q (read_vectors motion.call motion.precision 1 i m (drop q s)) r (sym e ∙ t.answers) in
           let w = step h ∙ ap (λ (b : Got Moving). after (q - at) (and_then b (drop q s) (read_vectors motion.call motion.precision (n - suc i) (suc i)))) f in
           record { answers = sym (ap (vectors_answer at) w); leaves = λ o k x. never (sym w ∙ x) }
 
-    pub ends : (k : ℕ) (vectors : List ℤ) → n ≤ i → k ≡ m.clipped → vectors ≡ m.vectors → Vectoring at (read_vectors motion.call motion.precision n 0 m₀ (drop at s)) (Vectors k q) vectors
+    pub ends : (k : ℕ) (vectors : List ℤ) → n ≤ i → k ≡ m.clipped → vectors ≡ m.vectors → Vectoring at (read_vectors motion.call motion.precision n 0 m₀ (drop at s)) (Ok (k, q)) vectors
     unfolding read_vectors
     ends k vectors h e v =
         let z : n - i ≡ 0 = omega arith in
         let w : read_vectors motion.call motion.precision n 0 m₀ (drop at s) ≡ got m (q - at + 0) = g.is ∙ ap (λ (j : ℕ). after (q - at) (read_vectors motion.call motion.precision j i m (drop q s))) z in
         let f : q ≡ at + (q - at + 0) = omega (arith, g.on) in
-        record { answers = ap₂ Vectors e f ∙ sym (ap (vectors_answer at) w); leaves = λ o j x. v ∙ ap (λ (y : Moving). y.vectors) (got-value (sym w ∙ x)) }
+        record { answers = ap₂ (λ (c n : ℕ). Ok (c, n)) e f ∙ sym (ap (vectors_answer at) w); leaves = λ o j x. v ∙ ap (λ (y : Moving). y.vectors) (got-value (sym w ∙ x)) }

@@ -1,7 +1,7 @@
 // What is read of a macroblock, into its record.
 ghost use Rattle.std.specs.Prelude.{◌≡◌, ◌+◌, ◌*◌, ◌≤◌, ◌<◌, ◌^◌, length, drop};
+ghost use Rattle.refusal.specs.Answered.{answered};
 ghost use Rattle.bits.specs.Bits.{bit_list};
-ghost use Rattle.bits.specs.Code.{bit_value};
 ghost use Rattle.picture.specs.InnerPicture.{Within};
 ghost use Rattle.picture.specs.Picture.{cell_count};
 ghost use Rattle.picture.specs.InnerField.{lent_field};
@@ -9,50 +9,22 @@ ghost use Rattle.vectors.specs.Modes.{num_motion_vectors};
 ghost use Rattle.record.specs.Record.{no_vectors};
 ghost use Rattle.levels.specs.Items.{no_levels};
 ghost use Rattle.reading.specs.Read.{Moving, moved, read_vectors, read_quantiser, at_first, read_residual, read_coded};
-ghost use Rattle.reading.specs.InnerAnswers.{lent_context, quantiser_answer, InGrid, Holds, Stepping, Vectoring, Reading};
+ghost use Rattle.reading.specs.InnerAnswers.{lent_context, InGrid, Holds, Stepping, Vectoring, Reading};
 
-use bits::pair::{PairAnswer, read_signed_pair};
-use bits::svq3_mv::{SignedAnswer, read_signed_code};
+use bits::pair::read_signed_pair;
+use bits::svq3_mv::read_signed_code;
 use levels::items::read_items;
-use levels::svq3_cbp::{CbpAnswer, read_cbp_inter};
-use levels::svq3_coeff::ListAnswer;
+use levels::svq3_cbp::read_cbp_inter;
 use picture::Grid;
 use record::Head;
 use refusal::Refusal;
 use state::{Call, Flags};
 use vectors::svq3_frame::{Units, move_component};
 use vectors::svq3_mb::{
-    PrecisionAnswer, Svq3MvPrecision, num_motion_vectors, partition_height, partition_offset_x,
-    partition_offset_y, partition_width, precision_number, read_inter_mv_precision_p_frame,
+    Svq3MvPrecision, num_motion_vectors, partition_height, partition_offset_x, partition_offset_y,
+    partition_width, precision_number, read_inter_mv_precision_p_frame,
 };
 use vectors::window::{load_neighbours, predict_mv, store_partition_in};
-
-#[derive(Clone, Copy)]
-pub enum ReadAnswer {
-    // the record's numbers, and the place after it
-    Read(Head, usize),
-    Refused(Refusal),
-}
-
-#[derive(Clone, Copy)]
-pub enum VectorsAnswer {
-    // how many components were clipped so far, and the place after the last difference
-    Vectors(u32, usize),
-    Refused(Refusal),
-}
-
-#[derive(Clone, Copy)]
-pub enum QuantiserAnswer {
-    // the quantiser afterwards, and the place after its delta
-    Quantiser(u32, usize),
-    Refused(Refusal),
-}
-
-fn bit_value(b: bool) -> u32
-    ensures { result ≡ bit_value b }
-{
-    if b { 1 } else { 0 }
-}
 
 // What the partitions of a macroblock have in common: its grid, its call and the precision of its vectors.
 #[derive(Clone, Copy)]
@@ -98,7 +70,7 @@ fn move_partition(
     store_partition_in(near, marked, cx, cy, wide, high, vx, vy);
     vectors[2 * i] = vx;
     vectors[2 * i + 1] = vy;
-    clipped + bit_value(mx.clipped) + bit_value(my.clipped)
+    clipped + u32::from(mx.clipped) + u32::from(my.clipped)
 }
 
 // Partition i: its difference read, the vertical one first, and the partition moved by it.
@@ -111,28 +83,24 @@ fn read_partition(
     motion: Motion,
     i: usize,
     clipped: u32,
-) -> VectorsAnswer
+) -> Result<(u32, usize), Refusal>
     requires in_grid { InGrid motion × (i < num_motion_vectors motion.call.mode) × (clipped ≤ 30) }
     requires vectors_len { (length vectors.old ≡ 32) × ((m : Moving) × Holds m motion clipped vectors.old near.old marked.old) }
     requires bits_len_bound { length bits.now < 2 ^ 61 }
     ensures { (m : Moving) → Holds m motion clipped vectors.old near.old marked.old → Stepping motion at (read_vectors motion.call motion.precision 1 i m (drop at (bit_list bits.now))) result vectors.new near.new marked.new }
 {
-    match read_signed_pair(bits, at) {
-        PairAnswer::Pair(dy, dx, next) => {
-            let so_far = move_partition(
-                vectors,
-                near,
-                marked,
-                motion,
-                i,
-                clipped,
-                Units(dx),
-                Units(dy),
-            );
-            VectorsAnswer::Vectors(so_far, next)
-        }
-        PairAnswer::Refused(r) => VectorsAnswer::Refused(r),
-    }
+    let ((dy, dx), next) = read_signed_pair(bits, at)?;
+    let so_far = move_partition(
+        vectors,
+        near,
+        marked,
+        motion,
+        i,
+        clipped,
+        Units(dx),
+        Units(dy),
+    );
+    Ok((so_far, next))
 }
 
 // The vectors of all partitions, on a copy of the cells that they see: the lent vectors and marks stay as they are.
@@ -143,7 +111,7 @@ fn read_vectors(
     bits: &[u8],
     at: usize,
     motion: Motion,
-) -> VectorsAnswer
+) -> Result<(u32, usize), Refusal>
     requires in_grid { InGrid motion × (length bits.now < 2 ^ 61) }
     requires mv_len { (length mv.now ≡ 2 * cell_count motion.grid.cols motion.grid.rows) × (length marks.now ≡ cell_count motion.grid.cols motion.grid.rows) × (vectors.old ≡ no_vectors) }
     ensures { Vectoring at (read_vectors motion.call motion.precision (num_motion_vectors motion.call.mode) 0 (at_first (lent_field motion.grid.cols motion.grid.rows mv.now marks.now)) (drop at (bit_list bits.now))) result vectors.new }
@@ -157,18 +125,19 @@ fn read_vectors(
     let n = num_motion_vectors(call.mode);
     let mut p = at;
     let mut clipped = 0;
-    let mut i = 0;
-    while i < n {
-        match read_partition(vectors, &mut near, &mut marked, bits, p, motion, i, clipped) {
-            VectorsAnswer::Vectors(so_far, next) => {
-                clipped = so_far;
-                p = next;
-                i += 1;
-            }
-            VectorsAnswer::Refused(r) => return VectorsAnswer::Refused(r),
-        }
+    for i in 0..n {
+        (clipped, p) = read_partition(
+            vectors,
+            &mut near,
+            &mut marked,
+            bits,
+            p,
+            motion,
+            i,
+            clipped,
+        )?;
     }
-    VectorsAnswer::Vectors(clipped, p)
+    Ok((clipped, p))
 }
 
 // A delta is read only if the pattern is not 0 and delta-enable is on.
@@ -178,23 +147,21 @@ fn read_quantiser(
     quantiser: u32,
     pattern: u8,
     delta: bool,
-) -> QuantiserAnswer
+) -> Result<(u32, usize), Refusal>
     requires { (length bits.now < 2 ^ 61) × (quantiser ≤ 31) }
-    ensures { result ≡ quantiser_answer at (read_quantiser delta quantiser pattern (drop at (bit_list bits.now))) }
+    ensures { result ≡ answered at (read_quantiser delta quantiser pattern (drop at (bit_list bits.now))) }
 {
     if (pattern != 0) & delta {
-        match read_signed_code(bits, at) {
-            SignedAnswer::Value(d, next) => {
-                let q = (quantiser as i64) + (d as i64);
-                if (q >= 0) & (q < 32) {
-                    return QuantiserAnswer::Quantiser(q as u32, next);
-                }
-                return QuantiserAnswer::Refused(Refusal::InvalidQuantiser(q));
-            }
-            SignedAnswer::Refused(r) => return QuantiserAnswer::Refused(r),
+        let (d, next) = read_signed_code(bits, at)?;
+        let q = (quantiser as i64) + (d as i64);
+        if (q >= 0) & (q < 32) {
+            Ok((q as u32, next))
+        } else {
+            Err(Refusal::InvalidQuantiser(q))
         }
+    } else {
+        Ok((quantiser, at))
     }
-    QuantiserAnswer::Quantiser(quantiser, at)
 }
 
 // Pattern, quantiser, levels.
@@ -206,33 +173,24 @@ fn read_residual(
     clipped: u32,
     delta: bool,
     quantiser: u32,
-) -> ReadAnswer
+) -> Result<(Head, usize), Refusal>
     requires { (levels.old ≡ no_levels) × (length bits.now < 2 ^ 61) × (quantiser ≤ 31) }
     ensures { (m : Moving) → clipped ≡ m.clipped → Reading at (read_residual delta quantiser motion.call motion.precision m (drop at (bit_list bits.now))) result m.vectors levels.new }
 {
-    match read_cbp_inter(bits, at) {
-        CbpAnswer::Pattern(pattern, p) => match read_quantiser(bits, p, quantiser, pattern, delta) {
-            QuantiserAnswer::Quantiser(q, b) => match read_items(levels, bits, b, pattern) {
-                ListAnswer::End(next) => {
-                    let call = motion.call;
-                    let precision = motion.precision;
-                    let head = Head {
-                        column: call.column,
-                        row: call.row,
-                        mode: call.mode,
-                        precision: precision_number(precision),
-                        clipped,
-                        pattern: pattern as u32,
-                        quantiser: q,
-                    };
-                    ReadAnswer::Read(head, next)
-                }
-                ListAnswer::Refused(r) => ReadAnswer::Refused(r),
-            },
-            QuantiserAnswer::Refused(r) => ReadAnswer::Refused(r),
-        },
-        CbpAnswer::Refused(r) => ReadAnswer::Refused(r),
-    }
+    let (pattern, p) = read_cbp_inter(bits, at)?;
+    let (q, b) = read_quantiser(bits, p, quantiser, pattern, delta)?;
+    let next = read_items(levels, bits, b, pattern)?;
+    let call = motion.call;
+    let head = Head {
+        column: call.column,
+        row: call.row,
+        mode: call.mode,
+        precision: precision_number(motion.precision),
+        clipped,
+        pattern: pattern as u32,
+        quantiser: q,
+    };
+    Ok((head, next))
 }
 
 // A macroblock that is no skip, read from the bits: precision, vectors, and what follows. It answers the numbers of its record; its vectors and levels go into the two slices.
@@ -248,25 +206,17 @@ pub fn read_coded(
     call: Call,
     flags: Flags,
     quantiser: u32,
-) -> ReadAnswer
+) -> Result<(Head, usize), Refusal>
     requires within { Within grid.cols grid.rows call.column call.row × (call.mode ≤ 7) × (quantiser ≤ 31) × (length bits.now < 2 ^ 61) }
     requires mv_len { (length mv.now ≡ 2 * cell_count grid.cols grid.rows) × (length marks.now ≡ cell_count grid.cols grid.rows) × (vectors.old ≡ no_vectors) × (levels.old ≡ no_levels) }
     ensures { Reading at (read_coded (lent_context grid.cols grid.rows mv.now marks.now flags quantiser) call (drop at (bit_list bits.now))) result vectors.new levels.new }
 {
-    match read_inter_mv_precision_p_frame(bits, at, flags.thirdpel, flags.halfpel) {
-        PrecisionAnswer::Precision(precision, p) => {
-            let motion = Motion {
-                grid,
-                call,
-                precision,
-            };
-            match read_vectors(vectors, mv, marks, bits, p, motion) {
-                VectorsAnswer::Vectors(clipped, q) => {
-                    read_residual(levels, bits, q, motion, clipped, flags.delta, quantiser)
-                }
-                VectorsAnswer::Refused(r) => ReadAnswer::Refused(r),
-            }
-        }
-        PrecisionAnswer::Refused(r) => ReadAnswer::Refused(r),
-    }
+    let (precision, p) = read_inter_mv_precision_p_frame(bits, at, flags.thirdpel, flags.halfpel)?;
+    let motion = Motion {
+        grid,
+        call,
+        precision,
+    };
+    let (clipped, q) = read_vectors(vectors, mv, marks, bits, p, motion)?;
+    read_residual(levels, bits, q, motion, clipped, flags.delta, quantiser)
 }

@@ -1,5 +1,5 @@
 -- `reading::svq3_frame::move_partition` makes `moved` of what was read before.
-use mathlib.Core.Path.{ap, ◌∙◌}
+use mathlib.Core.Path.{◌≡◌, refl, ap, ◌∙◌}
 use Prim.Native.Nat.{◌/◌, ◌≤◌, ◌<◌}
 use native.Mathlib.Omega.{arith}
 use borrow.Author.Rules.{rules}
@@ -13,6 +13,8 @@ use Rattle.reading.proofs.Vectors.{value-most}
 use Rattle.reading.proofs.Partitions.{part_at, held_at, moved_at}
 use Rattle.reading.proofs.svq3_frame.move_partition.Goals.{After-partition_offset_y-cy, After-predict_mv-from, After-store_partition_in}
 use Rattle.reading.proofs.svq3_frame.move_partition.Goals as goal
+use Rattle.std.specs.Prelude.{Bool, true, false}
+use Rattle.std.specs.Int.{from_bool}
 
 part : (c : After-partition_offset_y-cy) → Part (c.partition_offset_x-cx.result / 4) (c.partition_offset_y-cy.result / 4) (c.partition_width-wide.result / 4) (c.partition_height-high.result / 4)
 part c =
@@ -27,6 +29,10 @@ held c =
 few : (c : After-store_partition_in) → c.args.i < 16
 few c = omega (arith, num-most c.args.motion.call.mode c.requires.in_grid.0.mode, c.requires.in_grid.1)
 
+counts : (b : Bool) → from_bool b ≡ bit_value b
+counts true = refl
+counts false = refl
+
 pub bounds-vectors-i : goal.bounds-vectors-i
 bounds-vectors-i c = omega (arith, few c, c.requires.vectors_len.0)
 
@@ -34,10 +40,10 @@ pub bounds-vectors-i-2 : goal.bounds-vectors-i-2
 bounds-vectors-i-2 c = simp length-set (omega (arith, few c, c.requires.vectors_len.0))
 
 pub overflow_add-result : goal.overflow_add-result
-overflow_add-result c = omega (arith, c.bit_value.ensures, value-most c.move_component-mx.result.clipped, c.requires.in_grid.2)
+overflow_add-result c = omega (arith, c.from.ensures, counts c.move_component-mx.result.clipped, value-most c.move_component-mx.result.clipped, c.requires.in_grid.2)
 
 pub overflow_add-result-2 : goal.overflow_add-result-2
-overflow_add-result-2 c = omega (arith, c.bit_value-2.ensures, c.bit_value.ensures, value-most c.move_component-mx.result.clipped, value-most c.move_component-my.result.clipped, c.requires.in_grid.2)
+overflow_add-result-2 c = omega (arith, c.from-2.ensures, counts c.move_component-my.result.clipped, c.from.ensures, counts c.move_component-mx.result.clipped, value-most c.move_component-mx.result.clipped, value-most c.move_component-my.result.clipped, c.requires.in_grid.2)
 
 pub returns : goal.returns
 returns c m t =
@@ -49,8 +55,8 @@ returns c m t =
     a.dx.0 a.dy.0 m t c.predict_mv-from.ensures
     (field-read mx.result.value.0 (search rules) ∙ mx.ensures.value_value)
     (field-read my.result.value.0 (search rules) ∙ my.ensures.value_value)
-    (c.bit_value.ensures ∙ ap bit_value mx.ensures.clipped_value)
-    (c.bit_value-2.ensures ∙ ap bit_value my.ensures.clipped_value)
+    (c.from.ensures ∙ counts mx.result.clipped ∙ ap bit_value mx.ensures.clipped_value)
+    (c.from-2.ensures ∙ counts my.result.clipped ∙ ap bit_value my.ensures.clipped_value)
     st.ensures.near_after st.ensures.marked_after
 
 pub predict_mv-from-requires : goal.predict_mv-from-requires

@@ -1,5 +1,6 @@
 -- `reading::svq3_frame::read_coded`: each part's answer, taken on to the whole.
 use mathlib.Core.Path.{sym, ◌∙◌}
+use Rattle.refusal.proofs.Answered.{handed}
 use Rattle.bits.specs.Bits.{bit_list}
 use Rattle.state.specs.State.{Context}
 use Rattle.reading.specs.InnerAnswers.{lent_context}
@@ -10,15 +11,15 @@ use Rattle.reading.proofs.svq3_frame.read_coded.Goals as goal
 abbrev context : Start → Context
 context s = let a = s.args in lent_context a.grid.cols a.grid.rows a.mv.now a.marks.now a.flags a.quantiser
 
-pub returns-in-Vectors : goal.returns-in-Vectors
-returns-in-Vectors c =
+pub returns : goal.returns
+returns c =
     let a = c.args in
-    with-vectors (context (goal.at.returns-in-Vectors c).Start) a.call (bit_list a.bits.now) a.at _ _ _ _ (sym c.in-Precision.is ∙ c.read_inter_mv_precision_p_frame.ensures) _ c.read_vectors.ensures _ _ _ c.in-Vectors.is c.read_residual.ensures
+    with-vectors (context (goal.at.returns c).Start) a.call (bit_list a.bits.now) a.at _ _ _ _ (sym c.in_ok-precision.was ∙ c.read_inter_mv_precision_p_frame.ensures) _ c.read_vectors.ensures _ _ _ c.in_ok-clipped.was c.read_residual.ensures
 
-pub returns-in-Refused-read_vectors : goal.returns-in-Refused-read_vectors
-returns-in-Refused-read_vectors c =
+pub returns-in_err-clipped : goal.returns-in_err-clipped
+returns-in_err-clipped c =
     let a = c.args in
-    no-vectors (context (goal.at.returns-in-Refused-read_vectors c).Start) a.call (bit_list a.bits.now) a.at _ _ _ _ (sym c.in-Precision.is ∙ c.read_inter_mv_precision_p_frame.ensures) _ c.read_vectors.ensures _ c.in-Refused-read_vectors.is
+    rw (handed _ _ c.from_residual-in_err-clipped.ensures) (no-vectors (context (goal.at.returns-in_err-clipped c).Start) a.call (bit_list a.bits.now) a.at _ _ _ _ (sym c.in_ok-precision.was ∙ c.read_inter_mv_precision_p_frame.ensures) _ c.read_vectors.ensures _ c.in_err-clipped.was)
 
-pub returns-in-Refused : goal.returns-in-Refused
-returns-in-Refused c = let a = c.args in no-precision (context (goal.at.returns-in-Refused c).Start) a.call (bit_list a.bits.now) a.at _ _ _ (sym c.in-Refused.is ∙ c.read_inter_mv_precision_p_frame.ensures)
+pub returns-in_err-precision : goal.returns-in_err-precision
+returns-in_err-precision c = let a = c.args in rw (handed _ _ c.from_residual.ensures) (no-precision (context (goal.at.returns-in_err-precision c).Start) a.call (bit_list a.bits.now) a.at _ _ _ (sym c.in_err-precision.was ∙ c.read_inter_mv_precision_p_frame.ensures))

@@ -3,6 +3,7 @@ use mathlib.Core.Path.{refl, ap, ◌∙◌}
 use Prim.Native.Nat.{◌/◌, ◌<◌}
 use native.Mathlib.Omega.{arith}
 use lib.ListN.{length}
+use Rattle.refusal.proofs.Answered.{handed}
 use Rattle.bits.specs.Bits.{bit_list}
 use Rattle.vectors.specs.Modes.{partition_width, partition_height, num_motion_vectors}
 use Rattle.vectors.proofs.Partitions.{num-most}
@@ -32,22 +33,16 @@ read_partition-requires c =
     let few = num-most c.args.motion.call.mode c.requires.in_grid.0.mode in
     record { in_grid = (c.requires.in_grid.0, among, omega (arith, among, few, l.invariant.1.1.few, l.invariant.1.2.count)); vectors_len = (l.invariant.0, (l.invariant.1.0, l.invariant.1.2)); bits_len_bound = c.requires.in_grid.1 }
 
-pub overflow_add-i : goal.overflow_add-i
-overflow_add-i c = omega (arith, c.loop-i-test.true, c.num_motion_vectors-n.type_inv)
-
-pub loop-i-smaller : goal.loop-i-smaller
-loop-i-smaller c = omega (arith, c.loop-i-test.true)
-
 pub loop-i-preserved : goal.loop-i-preserved
 loop-i-preserved c =
     let l = c.loop-i in
     let t = c.read_partition in
-    (t.auto.vectors ∙ l.invariant.0, goes_on _ l.invariant.1.1 _ (t.ensures l.invariant.1.0 l.invariant.1.2) _ _ c.loop-i-test.true c.in-Vectors.is)
+    (t.auto.vectors ∙ l.invariant.0, goes_on _ l.invariant.1.1 _ (t.ensures l.invariant.1.0 l.invariant.1.2) _ _ c.loop-i-test.true c.in_ok-clipped.was)
 
-pub returns-in-Refused : goal.returns-in-Refused
-returns-in-Refused c =
+pub returns-in_err-clipped : goal.returns-in_err-clipped
+returns-in_err-clipped c =
     let l = c.loop-i in
-    rw (← c.num_motion_vectors-n.ensures) (stops _ l.invariant.1.1 _ (c.read_partition.ensures l.invariant.1.0 l.invariant.1.2) _ _ c.loop-i-test.true c.in-Refused.is)
+    rw (handed _ _ c.from_residual.ensures, ← c.num_motion_vectors-n.ensures) (stops _ l.invariant.1.1 _ (c.read_partition.ensures l.invariant.1.0 l.invariant.1.2) _ _ c.loop-i-test.true c.in_err-clipped.was)
 
 pub returns : goal.returns
 returns c =

@@ -1,6 +1,5 @@
 -- `reading::svq3_frame::read_vectors`: what is still to be read, joined to what was read, is the whole.
 use mathlib.Core.Path.{◌≡◌}
-use Prim.Native.Nat.{◌-◌}
 use lib.ListN.{length}
 use Rattle.bits.specs.Bits.{bit_list}
 use Rattle.picture.specs.InnerField.{lent_field}
@@ -12,7 +11,3 @@ use Rattle.reading.proofs.svq3_frame.read_vectors.Given as goal
 abbrev pub invariant-loop-i : goal.invariant-loop-i
 invariant-loop-i l =
     (length l.vectors ≡ 32) × ((m : Moving) × Going l.motion l.n (at_first (lent_field l.motion.grid.cols l.motion.grid.rows l.mv l.marks)) (bit_list l.bits) l.at l.i l.p m × Holds m l.motion l.clipped l.vectors l.near l.marked)
-
-abbrev pub decreases-loop-i : goal.decreases-loop-i
-decreases-loop-i l =
-    l.n - l.i
