@@ -15,8 +15,7 @@ use Rattle.bits.specs.Bits.{bit_list}
 use Rattle.picture.specs.InnerPicture.{Within}
 use Rattle.state.specs.Questions.{ask_call}
 use Rattle.state.specs.declared.Call.{Call}
-use Rattle.state.specs.declared.Asked.{Asked}
-use Rattle.state.specs.declared.Asked.TheVariants.{Yes, No}
+use Rattle.state.specs.Questions.{Asked, yes}
 use Rattle.state.proofs.Yes.{Called, call-yes}
 use Rattle.record.specs.Record.{Record, skip_record}
 use Rattle.record.specs.InnerRecord.{record_of}
@@ -26,16 +25,15 @@ use Rattle.record.specs.declared.Head.{Head}
 use Rattle.transcript.specs.Written.{Written}
 use Rattle.reading.specs.Read.{read_coded, read_macroblock}
 use Rattle.reading.specs.InnerAnswers.{Reading}
-use Rattle.reading.specs.declared.svq3_frame.ReadAnswer.{ReadAnswer}
-use Rattle.reading.specs.declared.svq3_frame.ReadAnswer.TheVariants as read
+use Rattle.std.specs.Prelude.{Result}
 use Rattle.reading.proofs.Answers.{ReadBy, was_read, read-refused, read-coded, read-in-range, read-head-range, read-no-skip}
 use Rattle.apply.specs.Apply.{applied_luma, applied_chroma, applied_field}
 use Rattle.state.specs.State.{State, field_of, context_of, lengths_of}
 use Rattle.macroblock.specs.Decode.{quantiser_after, applied, outcome_of, asked, decoded}
 use Rattle.macroblock.specs.Entry.{mb_left, quantiser_by, cursor_by}
 use Rattle.state.specs.declared.Cursor.{Cursor}
-use Rattle.macroblock.specs.declared.MbAnswer.{MbAnswer}
-use Rattle.macroblock.specs.declared.MbAnswer.TheVariants.{Accepted, Refused}
+use Rattle.macroblock.specs.Decode.{MbAnswer}
+use Rattle.std.specs.Prelude.{Ok, Err}
 
 -- the state with another quantiser, picture, vectors and marks
 abbrev pub changed : State → ℕ → List ℕ → List ℕ → List ℕ → List ℤ → List ℕ → State
@@ -78,12 +76,12 @@ module _ (s : State) (call : Call) (bits : List ℕ) (place : ℕ) (transcript :
   asked_by answer free e f = e ∙ ap (λ (n : ℕ). ask_call s.cols s.rows (lengths_of s) call s.quantiser (length bits) place n) f
 
   -- ---- a question was answered with no
-  pub not-asked : (answer : Asked) (why : Refusal) → answer ≡ asked s call bits place transcript fill → answer ≡ No why → mb_left (Refused why) s transcript ≡ decoded s call bits place transcript fill
+  pub not-asked : (answer : Asked) (why : Refusal) → answer ≡ asked s call bits place transcript fill → answer ≡ Err why → mb_left (Err why) s transcript ≡ decoded s call bits place transcript fill
   unfolding decoded
   not-asked answer why e is = rw (sym e ∙ is)
 
   -- ---- all were answered with yes
-  module _ (yes : asked s call bits place transcript fill ≡ Yes) where
+  module _ (yes : asked s call bits place transcript fill ≡ yes) where
     abbrev pub Facts : Type 0
     Facts = Called s.cols s.rows (lengths_of s) call s.quantiser (length bits) place (length transcript - fill)
 
@@ -108,26 +106,26 @@ module _ (s : State) (call : Call) (bits : List ℕ) (place : ℕ) (transcript :
         → cr ≡ applied_chroma 1 s.cols s.rows s.rcr (skip_record call.column call.row) s.cr
         → mv ≡ (applied_field (skip_record call.column call.row) (field_of s)).mv
         → marks ≡ (applied_field (skip_record call.column call.row) (field_of s)).marks
-        → mb_left (Accepted (record { place = place; quantiser = s.quantiser; fill = filled; clipped = 0 })) (changed s s.quantiser y cb cr mv marks) bytes ≡ decoded s call bits place transcript fill
+        → mb_left (Ok (record { place = place; quantiser = s.quantiser; fill = filled; clipped = 0 })) (changed s s.quantiser y cb cr mv marks) bytes ≡ decoded s call bits place transcript fill
     unfolding outcome_of applied quantiser_after skip_record read_macroblock when◌then◌else◌
     skipped m filled y cb cr mv marks bytes w ey ecb ecr em ek =
         let e : found ≡ got (skip_record call.column call.row) 0 = rw (eq-eqb call.mode 0 m) in
         let p : place ≡ place + 0 = omega arith in
-        (λ i. mb_left (Accepted (record { place = p i; quantiser = s.quantiser; fill = w.moved i; clipped = 0 })) (changed s s.quantiser (ey i) (ecb i) (ecr i) (em i) (ek i)) (w.leaves i)) ∙ on (got (skip_record call.column call.row) 0) e
+        (λ i. mb_left (Ok (record { place = p i; quantiser = s.quantiser; fill = w.moved i; clipped = 0 })) (changed s s.quantiser (ey i) (ecb i) (ecr i) (em i) (ek i)) (w.leaves i)) ∙ on (got (skip_record call.column call.row) 0) e
 
     -- ---- no skip
     module _ (some : 0 < call.mode) where
       on-coded : (o : Got Record) → found_coded ≡ o → outcome_of s place transcript fill o ≡ decoded s call bits place transcript fill
       on-coded o e = on o (read-coded (context_of s) call (drop place (bit_list bits)) some ∙ e)
 
-      pub not-read : (answer : ReadAnswer) (why : Refusal) (vs ls : List ℤ) → Reading place found_coded answer vs ls → answer ≡ read.Refused why
-          → mb_left (Refused why) s transcript ≡ decoded s call bits place transcript fill
+      pub not-read : (answer : Result (Head × ℕ) Refusal) (why : Refusal) (vs ls : List ℤ) → Reading place found_coded answer vs ls → answer ≡ Err why
+          → mb_left (Err why) s transcript ≡ decoded s call bits place transcript fill
       unfolding outcome_of
       not-read answer why vs ls r is = on-coded (refused why) (read-refused place found_coded why vs ls (rw is at r))
 
       -- a record was read
-      module _ (answer : ReadAnswer) (h : Head) (next : ℕ) (vs ls : List ℤ) (r : Reading place found_coded answer vs ls) (is : answer ≡ read.Read h next) where
-        said : Reading place found_coded (read.Read h next) vs ls
+      module _ (answer : Result (Head × ℕ) Refusal) (h : Head) (next : ℕ) (vs ls : List ℤ) (r : Reading place found_coded answer vs ls) (is : answer ≡ Ok (h, next)) where
+        said : Reading place found_coded (Ok (h, next)) vs ls
         said = rw is at r
 
         by : ReadBy place found_coded h next vs ls
@@ -150,14 +148,14 @@ module _ (s : State) (call : Call) (bits : List ℕ) (place : ℕ) (transcript :
             → cr ≡ applied_chroma 1 s.cols s.rows s.rcr (record_of h vs ls) s.cr
             → mv ≡ (applied_field (record_of h vs ls) (field_of s)).mv
             → marks ≡ (applied_field (record_of h vs ls) (field_of s)).marks
-            → mb_left (Accepted (record { place = next; quantiser = h.quantiser; fill = filled; clipped = h.clipped })) (changed s h.quantiser y cb cr mv marks) bytes ≡ decoded s call bits place transcript fill
+            → mb_left (Ok (record { place = next; quantiser = h.quantiser; fill = filled; clipped = h.clipped })) (changed s h.quantiser y cb cr mv marks) bytes ≡ decoded s call bits place transcript fill
         unfolding outcome_of applied
         accepted filled y cb cr mv marks bytes w ey ecb ecr em ek =
             let q = sym (coded-quantiser s (record_of h vs ls) no-skip) in
-            (λ i. mb_left (Accepted (record { place = by.moved i; quantiser = q i; fill = w.moved i; clipped = h.clipped })) (changed s (q i) (ey i) (ecb i) (ecr i) (em i) (ek i)) (w.leaves i))
+            (λ i. mb_left (Ok (record { place = by.moved i; quantiser = q i; fill = w.moved i; clipped = h.clipped })) (changed s (q i) (ey i) (ecb i) (ecr i) (em i) (ek i)) (w.leaves i))
             ∙ on-coded (got (record_of h vs ls) by.taken) by.is
 
 -- ---- the caller's record moved on by an answer has the answer's quantiser
 pub moved-quantiser : (place q : ℕ) (m : MbAnswer) (c : Cursor) → c ≡ cursor_by place q m → c.quantiser ≡ quantiser_by q m
-moved-quantiser place q (Accepted report) c e = ap (λ (x : Cursor). x.quantiser) e
-moved-quantiser place q (Refused why) c e = ap (λ (x : Cursor). x.quantiser) e
+moved-quantiser place q (Ok report) c e = ap (λ (x : Cursor). x.quantiser) e
+moved-quantiser place q (Err why) c e = ap (λ (x : Cursor). x.quantiser) e

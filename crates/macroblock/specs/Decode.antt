@@ -7,15 +7,19 @@ use Rattle.refusal.specs.Got.{Got, got, refused}
 use Rattle.bits.specs.Bits.{bit_list}
 use Rattle.state.specs.Questions.{ask_call}
 use Rattle.state.specs.declared.Call.{Call}
-use Rattle.state.specs.declared.Asked.{Asked}
-use Rattle.state.specs.declared.Asked.TheVariants.{Yes, No}
+use Rattle.state.specs.Questions.{Asked}
 use Rattle.record.specs.Record.{Record}
 use Rattle.record.specs.Write.{record_bytes}
 use Rattle.reading.specs.Read.{read_macroblock}
 use Rattle.apply.specs.Apply.{applied_luma, applied_chroma, applied_field}
 use Rattle.state.specs.State.{State, field_of, context_of, lengths_of}
-use Rattle.macroblock.specs.declared.MbAnswer.{MbAnswer}
-use Rattle.macroblock.specs.declared.MbAnswer.TheVariants.{Accepted, Refused}
+use Rattle.macroblock.specs.declared.MbReport.{MbReport}
+use Rattle.refusal.specs.declared.Refusal.{Refusal}
+use Rattle.std.specs.Prelude.{Result, Ok, Err}
+
+-- the answer to a call
+abbrev pub MbAnswer : Type 0
+MbAnswer = Result MbReport Refusal
 
 -- the quantiser afterwards: a skip keeps it
 unfoldable pub quantiser_after : State → Record → ℕ
@@ -55,15 +59,15 @@ kept s transcript answer = record { answer = answer; state = s; transcript = tra
 unfoldable pub outcome_of : State → ℕ → List ℕ → ℕ → Got Record → Outcome
 outcome_of s place transcript fill (got r n) =
     record {
-      answer = Accepted (record { place = place + n; quantiser = quantiser_after s r; fill = fill + length (record_bytes r); clipped = r.head.clipped });
+      answer = Ok (record { place = place + n; quantiser = quantiser_after s r; fill = fill + length (record_bytes r); clipped = r.head.clipped });
       state = applied s r;
       transcript = sets transcript fill (record_bytes r);
     }
-outcome_of s place transcript fill (refused why) = kept s transcript (Refused why)
+outcome_of s place transcript fill (refused why) = kept s transcript (Err why)
 
 abbrev pub unless_refused : Asked → State → List ℕ → Outcome → Outcome
-unless_refused Yes s transcript done = done
-unless_refused (No why) s transcript done = kept s transcript (Refused why)
+unless_refused (Ok _) s transcript done = done
+unless_refused (Err why) s transcript done = kept s transcript (Err why)
 
 -- the answer to the call's questions
 abbrev pub asked : State → Call → List ℕ → ℕ → List ℕ → ℕ → Asked

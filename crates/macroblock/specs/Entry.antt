@@ -7,8 +7,8 @@ use Rattle.state.specs.State.{State}
 use Rattle.macroblock.specs.Decode.{Outcome}
 use Rattle.state.specs.declared.Frame.{Frame}
 use Rattle.state.specs.declared.Cursor.{Cursor}
-use Rattle.macroblock.specs.declared.MbAnswer.{MbAnswer}
-use Rattle.macroblock.specs.declared.MbAnswer.TheVariants.{Accepted, Refused}
+use Rattle.macroblock.specs.Decode.{MbAnswer}
+use Rattle.std.specs.Prelude.{Ok, Err}
 
 abbrev pub state_of : Frame → ℕ → List ℕ → List ℕ → List ℕ → List ℕ → List ℕ → List ℕ → List ℤ → List ℕ → State
 state_of frame quantiser ry rcb rcr y cb cr mv marks =
@@ -48,13 +48,13 @@ state_after frame quantiser ry rcb rcr y cb cr mv marks = state_now frame quanti
 
 -- the quantiser after an answer: a refused call keeps it
 abbrev pub quantiser_by : ℕ → MbAnswer → ℕ
-quantiser_by q (Accepted report) = report.quantiser
-quantiser_by q (Refused why) = q
+quantiser_by q (Ok report) = report.quantiser
+quantiser_by q (Err why) = q
 
 abbrev pub mb_left : MbAnswer → State → List ℕ → Outcome
 mb_left answer s transcript = record { answer = answer; state = s; transcript = transcript }
 
 -- where an answer leaves the caller's place and quantiser
 abbrev pub cursor_by : ℕ → ℕ → MbAnswer → Cursor
-cursor_by place q (Accepted report) = record { place = report.place; quantiser = report.quantiser }
-cursor_by place q (Refused why) = record { place = place; quantiser = q }
+cursor_by place q (Ok report) = record { place = report.place; quantiser = report.quantiser }
+cursor_by place q (Err why) = record { place = place; quantiser = q }

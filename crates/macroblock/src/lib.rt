@@ -17,21 +17,15 @@ pub struct MbReport {
     pub clipped: u32,
 }
 
-#[derive(Clone, Copy)]
-pub enum MbAnswer {
-    Accepted(MbReport),
-    Refused(Refusal),
-}
-
 // Where a call leaves the caller: past an accepted macroblock, where it was at a refusal.
-pub fn cursor_by(place: usize, quantiser: u32, answer: MbAnswer) -> Cursor
+pub fn cursor_by(place: usize, quantiser: u32, answer: Result<MbReport, Refusal>) -> Cursor
     ensures { result ≡ cursor_by place quantiser answer }
 {
     match answer {
-        MbAnswer::Accepted(report) => Cursor {
+        Ok(report) => Cursor {
             place: report.place,
             quantiser: report.quantiser,
         },
-        MbAnswer::Refused(_) => Cursor { place, quantiser },
+        Err(_) => Cursor { place, quantiser },
     }
 }

@@ -1,12 +1,14 @@
 // A macroblock decoded into the picture, the vectors, the marks and the transcript.
-ghost use Rattle.std.specs.Prelude.{◌≡◌, ◌<◌, ◌-◌};
+ghost use Rattle.std.specs.Prelude.{◌≡◌, ◌<◌};
+ghost use Rattle.state.specs.Questions.{yes};
 ghost use Rattle.macroblock.specs.Decode.{asked, decoded};
 ghost use Rattle.macroblock.specs.Entry.{state_now, state_before, state_after, quantiser_by, mb_left};
 
-use crate::{MbAnswer, MbReport};
+use crate::MbReport;
 use apply::applied::{apply_coded, apply_skip};
-use reading::svq3_frame::{ReadAnswer, read_coded};
-use state::{Asked, Call, Frame, Lengths, ask_call};
+use reading::svq3_frame::read_coded;
+use refusal::Refusal;
+use state::{Call, Frame, Lengths, ask_call};
 use transcript::write::{put_coded, put_skip};
 
 // A macroblock that is no skip: read, then written and applied.
@@ -26,8 +28,8 @@ fn decode_coded(
     quantiser: u32,
     place: usize,
     fill: usize,
-) -> MbAnswer
-    requires fill_value { asked (state_now frame quantiser ry rcb rcr y cb cr mv marks) call bits.now place transcript.old fill ≡ Asked.Yes }
+) -> Result<MbReport, Refusal>
+    requires fill_value { asked (state_now frame quantiser ry rcb rcr y cb cr mv marks) call bits.now place transcript.old fill ≡ yes }
     requires mode_nonzero { 0 < call.mode }
     ensures { mb_left result (state_after frame (quantiser_by quantiser result) ry rcb rcr y cb cr mv marks) transcript.new
         ≡ decoded (state_before frame quantiser ry rcb rcr y cb cr mv marks) call bits.now place transcript.old fill }
@@ -36,7 +38,7 @@ fn decode_coded(
     let mut levels = [0i32; 392];
     let grid = frame.grid;
     let flags = frame.flags;
-    match read_coded(
+    let (head, next) = read_coded(
         &mut vectors,
         &mut levels,
         mv,
@@ -47,28 +49,17 @@ fn decode_coded(
         call,
         flags,
         quantiser,
-    ) {
-        ReadAnswer::Read(head, next) => {
-            let filled = put_coded(transcript, &vectors, &levels, fill, head);
-            apply_coded(
-                y, cb, cr, mv, marks, ry, rcb, rcr, &vectors, &levels, grid, head,
-            );
-            MbAnswer::Accepted(MbReport {
-                place: next,
-                quantiser: head.quantiser,
-                fill: filled,
-                clipped: head.clipped,
-            })
-        }
-        ReadAnswer::Refused(why) => MbAnswer::Refused(why),
-    }
-}
-
-// The bytes past the fill.
-fn free_of(length: usize, fill: usize) -> usize
-    ensures { result ≡ length - fill }
-{
-    if fill <= length { length - fill } else { 0 }
+    )?;
+    let filled = put_coded(transcript, &vectors, &levels, fill, head);
+    apply_coded(
+        y, cb, cr, mv, marks, ry, rcb, rcr, &vectors, &levels, grid, head,
+    );
+    Ok(MbReport {
+        place: next,
+        quantiser: head.quantiser,
+        fill: filled,
+        clipped: head.clipped,
+    })
 }
 
 // A skip reads nothing: its blocks are copied, and its record is its place and its mode.
@@ -88,13 +79,13 @@ fn decode_skip(
     quantiser: u32,
     place: usize,
     fill: usize,
-) -> MbAnswer
-    requires fill_value { asked (state_now frame quantiser ry rcb rcr y cb cr mv marks) call bits.now place transcript.old fill ≡ Asked.Yes }
+) -> Result<MbReport, Refusal>
+    requires fill_value { asked (state_now frame quantiser ry rcb rcr y cb cr mv marks) call bits.now place transcript.old fill ≡ yes }
     requires mode_value { call.mode ≡ 0 }
     ensures { mb_left result (state_after frame (quantiser_by quantiser result) ry rcb rcr y cb cr mv marks) transcript.new
         ≡ decoded (state_before frame quantiser ry rcb rcr y cb cr mv marks) call bits.now place transcript.old fill }
 {
-    let filled = put_skip(transcript, fill, call.column, call.row);
+    let fill = put_skip(transcript, fill, call.column, call.row);
     apply_skip(
         y,
         cb,
@@ -108,10 +99,10 @@ fn decode_skip(
         call.column as usize,
         call.row as usize,
     );
-    MbAnswer::Accepted(MbReport {
+    Ok(MbReport {
         place,
         quantiser,
-        fill: filled,
+        fill,
         clipped: 0,
     })
 }
@@ -133,8 +124,8 @@ fn decode_asked(
     quantiser: u32,
     place: usize,
     fill: usize,
-) -> MbAnswer
-    requires { asked (state_now frame quantiser ry rcb rcr y cb cr mv marks) call bits.now place transcript.old fill ≡ Asked.Yes }
+) -> Result<MbReport, Refusal>
+    requires { asked (state_now frame quantiser ry rcb rcr y cb cr mv marks) call bits.now place transcript.old fill ≡ yes }
     ensures { mb_left result (state_after frame (quantiser_by quantiser result) ry rcb rcr y cb cr mv marks) transcript.new
         ≡ decoded (state_before frame quantiser ry rcb rcr y cb cr mv marks) call bits.now place transcript.old fill }
 {
@@ -168,7 +159,7 @@ pub fn decode_inter_mb(
     quantiser: u32,
     place: usize,
     fill: usize,
-) -> MbAnswer
+) -> Result<MbReport, Refusal>
     ensures { mb_left result (state_after frame (quantiser_by quantiser result) ry rcb rcr y cb cr mv marks) transcript.new
         ≡ decoded (state_before frame quantiser ry rcb rcr y cb cr mv marks) call bits.now place transcript.old fill }
 {
@@ -187,12 +178,9 @@ pub fn decode_inter_mb(
         rcb: rcb.len(),
         rcr: rcr.len(),
     };
-    let free = free_of(transcript.len(), fill);
-    match ask_call(frame.grid, l, made, quantiser, bits.len(), place, free) {
-        Asked::Yes => decode_asked(
-            y, cb, cr, mv, marks, transcript, ry, rcb, rcr, bits, frame, made, quantiser, place,
-            fill,
-        ),
-        Asked::No(why) => MbAnswer::Refused(why),
-    }
+    let free = transcript.len().saturating_sub(fill);
+    ask_call(frame.grid, l, made, quantiser, bits.len(), place, free)?;
+    decode_asked(
+        y, cb, cr, mv, marks, transcript, ry, rcb, rcr, bits, frame, made, quantiser, place, fill,
+    )
 }

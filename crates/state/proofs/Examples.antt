@@ -3,12 +3,12 @@
 use mathlib.Core.Path.{◌≡◌, refl}
 use Prim.Native.Nat.{◌^◌}
 use Rattle.refusal.specs.declared.Refusal.TheVariants.{BitPlace}
-use Rattle.state.specs.Questions.{asked, place_in, ask_place}
+use Rattle.state.specs.Questions.{yes, place_in, ask_place}
 use Rattle.std.specs.Prelude.{Err}
 
 pub examples :
-    (ask_place 2 16 asked ≡ asked)
-    × (ask_place 2 17 asked ≡ Err BitPlace)
-    × (ask_place (2 ^ 61) 0 asked ≡ Err BitPlace)
+    (ask_place 2 16 yes ≡ yes)
+    × (ask_place 2 17 yes ≡ Err BitPlace)
+    × (ask_place (2 ^ 61) 0 yes ≡ Err BitPlace)
 unfolding place_in ask_place
 examples = (refl, refl, refl)

@@ -7,7 +7,7 @@ use borrow.Author.Tests.{leb-true, ltb-true, eqb-true}
 use lib.Dec.{eqb, leb, ltb}
 use Rattle.picture.specs.InnerPicture.{Sized}
 use Rattle.picture.specs.Picture.{luma_length, chroma_length, cell_count}
-use Rattle.state.specs.Questions.{Asked, asked, grid_right, planes_right, state_right, reference_there, call_right, place_in, ask_start, ask_quantiser, ask_place, ask_rest, ask_call}
+use Rattle.state.specs.Questions.{Asked, yes, grid_right, planes_right, state_right, reference_there, call_right, place_in, ask_start, ask_quantiser, ask_place, ask_rest, ask_call}
 use Rattle.state.specs.InnerSizes.{AllSized}
 use Rattle.state.specs.declared.Call.{Call}
 use Rattle.state.specs.declared.Lengths.{Lengths}
@@ -20,9 +20,9 @@ pub record Started (cols rows : ℕ) (l : Lengths) (next : Asked) : Type 0 where
   pub two : state_right cols rows l ≡ true
   pub three : reference_there l ≡ true
   pub four : planes_right cols rows l.ry l.rcb l.rcr ≡ true
-  pub others : next ≡ asked
+  pub others : next ≡ yes
 
-pub started : (cols rows : ℕ) (l : Lengths) (next : Asked) → ask_start cols rows l next ≡ asked → Started cols rows l next
+pub started : (cols rows : ℕ) (l : Lengths) (next : Asked) → ask_start cols rows l next ≡ yes → Started cols rows l next
 unfolding ask_start
 started cols rows l next e =
     let a = ask-yes (grid_right cols rows) _ _ e in
@@ -60,7 +60,7 @@ pub record Rest (cols rows : ℕ) (call : Call) (quantiser size place free : ℕ
   pub size_fits : size < 2 ^ 61
   pub free_bytes : 2089 ≤ free
 
-pub rest-yes : (cols rows : ℕ) (call : Call) (quantiser size place free : ℕ) → ask_rest cols rows call quantiser size place free ≡ asked → Rest cols rows call quantiser size place free
+pub rest-yes : (cols rows : ℕ) (call : Call) (quantiser size place free : ℕ) → ask_rest cols rows call quantiser size place free ≡ yes → Rest cols rows call quantiser size place free
 unfolding ask_rest ask_quantiser ask_place call_right place_in
 rest-yes cols rows call quantiser size place free e =
     let c = ask-yes (leb call.mode 7 && ltb call.column cols && ltb call.row rows) _ _ e in
@@ -85,7 +85,7 @@ pub record Called (cols rows : ℕ) (l : Lengths) (call : Call) (quantiser size 
   pub sized : AllSized cols rows l
   pub rest : Rest cols rows call quantiser size place free
 
-pub call-yes : (cols rows : ℕ) (l : Lengths) (call : Call) (quantiser size place free : ℕ) → ask_call cols rows l call quantiser size place free ≡ asked → Called cols rows l call quantiser size place free
+pub call-yes : (cols rows : ℕ) (l : Lengths) (call : Call) (quantiser size place free : ℕ) → ask_call cols rows l call quantiser size place free ≡ yes → Called cols rows l call quantiser size place free
 unfolding ask_call
 call-yes cols rows l call quantiser size place free e =
     let st = started cols rows l _ e in

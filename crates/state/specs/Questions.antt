@@ -11,8 +11,8 @@ use Rattle.state.specs.declared.Lengths.{Lengths}
 abbrev pub Asked : Type 0
 Asked = Result (Unit {0}) Refusal
 
-abbrev pub asked : Asked
-asked = Ok tt
+abbrev pub yes : Asked
+yes = Ok tt
 
 -- where the answer is yes the next question is asked
 abbrev pub then_ask : Bool → Refusal → Asked → Asked
@@ -65,7 +65,7 @@ ask_rest cols rows call quantiser size place free =
     then_ask (call_right cols rows call) CallRange
     (ask_quantiser quantiser
     (ask_place size place
-    (then_ask (leb 2089 free) TranscriptRoom asked)))
+    (then_ask (leb 2089 free) TranscriptRoom yes)))
 
 -- 1 to 8: of a call
 unfoldable pub ask_call : ℕ → ℕ → Lengths → Call → ℕ → ℕ → ℕ → ℕ → Asked
@@ -73,11 +73,11 @@ ask_call cols rows l call quantiser size place free = ask_start cols rows l (ask
 
 -- 1 to 4, 6 and 7: of a run with no call
 unfoldable pub ask_run : ℕ → ℕ → Lengths → ℕ → ℕ → ℕ → Asked
-ask_run cols rows l quantiser size place = ask_start cols rows l (ask_quantiser quantiser (ask_place size place asked))
+ask_run cols rows l quantiser size place = ask_start cols rows l (ask_quantiser quantiser (ask_place size place yes))
 
 -- 1 to 4 and 6: of a replay
 unfoldable pub ask_replay : ℕ → ℕ → Lengths → ℕ → Asked
-ask_replay cols rows l quantiser = ask_start cols rows l (ask_quantiser quantiser asked)
+ask_replay cols rows l quantiser = ask_start cols rows l (ask_quantiser quantiser yes)
 
 -- of a plane (2), and of a block and its output (5), where a compensated block alone is asked for: 1 to `most` samples a side, and a length that matches
 unfoldable pub sides_fit : ℕ → ℕ → ℕ → ℕ → Bool

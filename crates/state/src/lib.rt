@@ -2,7 +2,7 @@
 // Grid, flags, call, cursor and lengths, and the questions before a macroblock: on numbers alone, the lengths of the slices among them.
 
 ghost use Rattle.std.specs.Prelude.{◌≡◌, true, ◌≤◌};
-ghost use Rattle.state.specs.Questions.{grid_right, planes_right, state_right, reference_there, call_right, place_in, asked, then_ask, ask_start, ask_quantiser, ask_place, ask_rest, ask_call, ask_run, ask_replay, sides_fit};
+ghost use Rattle.state.specs.Questions.{grid_right, planes_right, state_right, reference_there, call_right, place_in, yes, then_ask, ask_start, ask_quantiser, ask_place, ask_rest, ask_call, ask_run, ask_replay, sides_fit};
 
 use picture::Grid;
 use refusal::Refusal;
@@ -91,15 +91,15 @@ fn place_in(size: usize, place: usize) -> bool
 }
 
 // A question: the refusal where the answer is no.
-fn ask(yes: bool, why: Refusal) -> Result<(), Refusal>
-    ensures { result ≡ then_ask yes why asked }
+fn ask(test: bool, why: Refusal) -> Result<(), Refusal>
+    ensures { result ≡ then_ask test why yes }
 {
-    if yes { Ok(()) } else { Err(why) }
+    if test { Ok(()) } else { Err(why) }
 }
 
 // Questions 1 to 4.
 fn ask_start(grid: Grid, l: Lengths) -> Result<(), Refusal>
-    ensures { result ≡ ask_start grid.cols grid.rows l asked }
+    ensures { result ≡ ask_start grid.cols grid.rows l yes }
 {
     ask(grid_right(grid), Refusal::GridSize)?;
     ask(state_right(grid, l), Refusal::StateLength)?;
@@ -112,14 +112,14 @@ fn ask_start(grid: Grid, l: Lengths) -> Result<(), Refusal>
 
 // Question 6.
 fn ask_quantiser(quantiser: u32) -> Result<(), Refusal>
-    ensures { result ≡ ask_quantiser quantiser asked }
+    ensures { result ≡ ask_quantiser quantiser yes }
 {
     ask(quantiser <= 31, Refusal::QuantiserRange)
 }
 
 // Question 7, of a bit slice of `size` bytes.
 fn ask_place(size: usize, place: usize) -> Result<(), Refusal>
-    ensures { result ≡ ask_place size place asked }
+    ensures { result ≡ ask_place size place yes }
 {
     ask(place_in(size, place), Refusal::BitPlace)
 }

@@ -12,8 +12,9 @@ use Rattle.record.specs.Range.{RecordRange, HeadRange}
 use Rattle.record.specs.declared.Head.{Head}
 use Rattle.state.specs.State.{State}
 use Rattle.macroblock.specs.Entry.{state_of}
+use Rattle.refusal.proofs.Answered.{handed}
 use Rattle.macroblock.proofs.Laws as laws
-use Rattle.macroblock.proofs.svq3_frame.decode_coded.Goals.{In-Read, Start}
+use Rattle.macroblock.proofs.svq3_frame.decode_coded.Goals.{In_ok-head, Start}
 use Rattle.macroblock.proofs.svq3_frame.decode_coded.Goals as goal
 
 -- ---- the state at entry
@@ -27,26 +28,26 @@ within-at : (s : Start) → Within (S s).cols (S s).rows s.args.call.column s.ar
 within-at s = laws.within (S s) s.args.call s.args.bits.now s.args.place s.args.transcript.now s.args.fill s.requires.fill_value
 
 -- ---- a record was read
-abbrev at_start : In-Read → Start
-at_start k = k.before.before.before.before.before.before.before.before.before.before.before.before.before.before.before.before.before.before
+abbrev T : In_ok-head → State
+T c = state_of c.args.frame c.args.quantiser c.args.ry.now c.args.rcb.now c.args.rcr.now c.args.y.now c.args.cb.now c.args.cr.now c.args.mv.now c.args.marks.now
 
-abbrev H : In-Read → Head
-H k = k.in-Read.head
+abbrev H : In_ok-head → Head
+H k = k.in_ok-head.head
 
-abbrev Vs : In-Read → List ℤ
+abbrev Vs : In_ok-head → List ℤ
 Vs k = k.read_coded.new.vectors
 
-abbrev Ls : In-Read → List ℤ
+abbrev Ls : In_ok-head → List ℤ
 Ls k = k.read_coded.new.levels
 
-range_at : (k : In-Read) → RecordRange (S (at_start k)).cols (S (at_start k)).rows (record_of (H k) (Vs k) (Ls k))
-range_at k = let s = at_start k in laws.range (S s) s.args.call s.args.bits.now s.args.place s.args.transcript.now s.args.fill s.requires.fill_value s.requires.mode_nonzero _ (H k) _ (Vs k) (Ls k) k.read_coded.ensures k.in-Read.is
+range_at : (k : In_ok-head) → RecordRange (T k).cols (T k).rows (record_of (H k) (Vs k) (Ls k))
+range_at k = let s = k in laws.range (T s) s.args.call s.args.bits.now s.args.place s.args.transcript.now s.args.fill s.requires.fill_value s.requires.mode_nonzero _ (H k) _ (Vs k) (Ls k) k.read_coded.ensures k.in_ok-head.was
 
-head_at : (k : In-Read) → HeadRange (H k)
-head_at k = let s = at_start k in laws.head_in (S s) s.args.call s.args.bits.now s.args.place s.args.transcript.now s.args.fill s.requires.fill_value s.requires.mode_nonzero _ (H k) _ (Vs k) (Ls k) k.read_coded.ensures k.in-Read.is
+head_at : (k : In_ok-head) → HeadRange (H k)
+head_at k = let s = k in laws.head_in (T s) s.args.call s.args.bits.now s.args.place s.args.transcript.now s.args.fill s.requires.fill_value s.requires.mode_nonzero _ (H k) _ (Vs k) (Ls k) k.read_coded.ensures k.in_ok-head.was
 
-no-skip-at : (k : In-Read) → 0 < (H k).mode
-no-skip-at k = let s = at_start k in laws.no-skip (S s) s.args.call s.args.bits.now s.args.place s.args.transcript.now s.args.fill s.requires.fill_value s.requires.mode_nonzero _ (H k) _ (Vs k) (Ls k) k.read_coded.ensures k.in-Read.is
+no-skip-at : (k : In_ok-head) → 0 < (H k).mode
+no-skip-at k = let s = k in laws.no-skip (T s) s.args.call s.args.bits.now s.args.place s.args.transcript.now s.args.fill s.requires.fill_value s.requires.mode_nonzero _ (H k) _ (Vs k) (Ls k) k.read_coded.ensures k.in_ok-head.was
 
 -- ---- the needs
 pub read_coded-requires : goal.read_coded-requires
@@ -57,27 +58,27 @@ read_coded-requires c =
 
 pub put_coded-filled-requires : goal.put_coded-filled-requires
 put_coded-filled-requires c =
-    let s = at_start (goal.at.put_coded-filled-requires c).In-Read in
-    (head_at (goal.at.put_coded-filled-requires c).In-Read, no-skip-at (goal.at.put_coded-filled-requires c).In-Read, c.read_coded.auto.vectors, c.read_coded.auto.levels, omega (arith, laws.room (S s) s.args.call s.args.bits.now s.args.place s.args.transcript.now s.args.fill s.requires.fill_value))
+    let s = (goal.at.put_coded-filled-requires c).In_ok-head in
+    (head_at (goal.at.put_coded-filled-requires c).In_ok-head, no-skip-at (goal.at.put_coded-filled-requires c).In_ok-head, c.read_coded.auto.vectors, c.read_coded.auto.levels, omega (arith, laws.room (T s) s.args.call s.args.bits.now s.args.place s.args.transcript.now s.args.fill s.requires.fill_value))
 
 pub apply_coded-requires : goal.apply_coded-requires
 apply_coded-requires c =
-    let s = at_start (goal.at.apply_coded-requires c).In-Read in
-    let f = facts_at s in
-    record { cols_bound = (f.in-grid.most-cols, f.in-grid.most-rows, range_at (goal.at.apply_coded-requires c).In-Read, no-skip-at (goal.at.apply_coded-requires c).In-Read, c.read_coded.auto.vectors, c.read_coded.auto.levels); all_sized = f.sized }
+    let s = (goal.at.apply_coded-requires c).In_ok-head in
+    let f = facts_at (goal.at.apply_coded-requires c).Start in
+    record { cols_bound = (f.in-grid.most-cols, f.in-grid.most-rows, range_at (goal.at.apply_coded-requires c).In_ok-head, no-skip-at (goal.at.apply_coded-requires c).In_ok-head, c.read_coded.auto.vectors, c.read_coded.auto.levels); all_sized = f.sized }
 
-pub returns-in-Read : goal.returns-in-Read
-returns-in-Read c =
-    let s = at_start (goal.at.returns-in-Read c).In-Read in
+pub returns : goal.returns
+returns c =
+    let s = (goal.at.returns c).In_ok-head in
     let w = c.put_coded-filled in
     let a = c.apply_coded in
-    laws.accepted (S s) s.args.call s.args.bits.now s.args.place s.args.transcript.now s.args.fill s.requires.fill_value s.requires.mode_nonzero _ (H (goal.at.returns-in-Read c).In-Read) _ (Vs (goal.at.returns-in-Read c).In-Read) (Ls (goal.at.returns-in-Read c).In-Read) c.read_coded.ensures c.in-Read.is
+    laws.accepted (T s) s.args.call s.args.bits.now s.args.place s.args.transcript.now s.args.fill s.requires.fill_value s.requires.mode_nonzero _ (H (goal.at.returns c).In_ok-head) _ (Vs (goal.at.returns c).In_ok-head) (Ls (goal.at.returns c).In_ok-head) c.read_coded.ensures c.in_ok-head.was
     w.result a.new.y a.new.cb a.new.cr a.new.mv a.new.marks w.new.out
     w.ensures a.ensures.y_after a.ensures.cb_after a.ensures.cr_after a.ensures.mv_after a.ensures.marks_after
 
-pub returns-in-Refused : goal.returns-in-Refused
-returns-in-Refused c =
-    laws.not-read (S (goal.at.returns-in-Refused c).Start) c.args.call c.args.bits.now c.args.place c.args.transcript.now c.args.fill c.requires.fill_value c.requires.mode_nonzero _ _ _ _ c.read_coded.ensures c.in-Refused.is
+pub returns-in_err-head : goal.returns-in_err-head
+returns-in_err-head c =
+    rw (handed _ _ c.from_residual.ensures) (laws.not-read (S (goal.at.returns-in_err-head c).Start) c.args.call c.args.bits.now c.args.place c.args.transcript.now c.args.fill c.requires.fill_value c.requires.mode_nonzero _ _ _ _ c.read_coded.ensures c.in_err-head.was)
 
 pub slice_bounds-read_coded-end : goal.slice_bounds-read_coded-end
 slice_bounds-read_coded-end c = refl
@@ -88,11 +89,11 @@ slice_bounds-read_coded-end-2 c = refl
 pub slice_bounds-put_coded-end : goal.slice_bounds-put_coded-end
 slice_bounds-put_coded-end c = sym c.read_coded.auto.vectors
 
-pub slice_bounds-put_coded-end-in-Read : goal.slice_bounds-put_coded-end-in-Read
-slice_bounds-put_coded-end-in-Read c = sym c.read_coded.auto.levels
+pub slice_bounds-put_coded-end-2 : goal.slice_bounds-put_coded-end-2
+slice_bounds-put_coded-end-2 c = sym c.read_coded.auto.levels
 
 pub slice_bounds-apply_coded-end : goal.slice_bounds-apply_coded-end
 slice_bounds-apply_coded-end c = sym c.read_coded.auto.vectors
 
-pub slice_bounds-apply_coded-end-in-Read : goal.slice_bounds-apply_coded-end-in-Read
-slice_bounds-apply_coded-end-in-Read c = sym c.read_coded.auto.levels
+pub slice_bounds-apply_coded-end-2 : goal.slice_bounds-apply_coded-end-2
+slice_bounds-apply_coded-end-2 c = sym c.read_coded.auto.levels
