@@ -8,20 +8,17 @@ use lib.ListN.{length, drop, length-drop}
 use lib.Seq.{drop-drop}
 use Rattle.refusal.specs.Got.{Got, got, refused, and_then, map_got}
 use Rattle.refusal.specs.declared.Refusal.{Refusal}
-use Rattle.refusal.specs.declared.Refusal.TheVariants.{NumberForm}
 use Rattle.refusal.proofs.Formats.{bounded}
 use Rattle.refusal.proofs.Local.{apart}
 use Rattle.number.specs.Number.{read_number}
-use Rattle.number.specs.InnerNumber.{number_answer}
-use Rattle.number.specs.declared.NumberAnswer.TheVariants as number
-use Rattle.number.proofs.Numbers.{number-format, number-length, refused-form}
-use Rattle.number.proofs.Answers.{number-answered, number-refused}
+use Rattle.refusal.specs.Answered.{answered}
+use Rattle.std.specs.Prelude.{Ok, Err}
+use Rattle.number.proofs.Numbers.{number-format, number-length}
+use Rattle.refusal.proofs.Answered.{answered-got, answered-refused}
 use Rattle.refusal.proofs.Lists.{Takes, Next, mapped, until_all, until-next, until_none, tally}
 use Rattle.state.specs.declared.Call.{Call}
 use Rattle.run.specs.Calls.{call_in, calls_in, calls}
-use Rattle.run.specs.InnerCalls.{call_answer, calls_answer}
-use Rattle.run.specs.declared.calls.CallAnswer.TheVariants as one
-use Rattle.run.specs.declared.calls.CallsAnswer.TheVariants as all
+use Rattle.run.specs.InnerCalls.{calls_answer}
 
 abbrev call_of : ℕ → ℕ → ℕ → Call
 call_of column row mode = record { column = column; row = row; mode = mode }
@@ -58,48 +55,40 @@ calls-next = until-next call-takes
 
 -- ---- what a reader of one call answers
 module _ (s : List ℕ) (at : ℕ) where
-  no_number : (r : Refusal) (p : ℕ) → number.Refused r ≡ number_answer p (read_number (drop p s)) → read_number (drop p s) ≡ refused NumberForm
-  no_number r p e = let f = number-refused p (read_number (drop p s)) r e in f ∙ ap refused (refused-form (drop p s) r f)
-
-  pub no-column : (r : Refusal) → number.Refused r ≡ number_answer at (read_number (drop at s)) → one.Refused NumberForm ≡ call_answer at (call_in (drop at s))
+  pub no-column : (r : Refusal) → Err r ≡ answered at (read_number (drop at s)) → Err r ≡ answered at (call_in (drop at s))
   unfolding call_in
-  no-column r e = rw (no_number r at e)
+  no-column r e = rw (answered-refused at (read_number (drop at s)) r e)
 
-  module _ (column p : ℕ) (e : number.Number column p ≡ number_answer at (read_number (drop at s))) where
-    pub no_row : (r : Refusal) → number.Refused r ≡ number_answer p (read_number (drop p s)) → one.Refused NumberForm ≡ call_answer at (call_in (drop at s))
+  module _ (column p : ℕ) (e : Ok (column, p) ≡ answered at (read_number (drop at s))) where
+    pub no_row : (r : Refusal) → Err r ≡ answered p (read_number (drop p s)) → Err r ≡ answered at (call_in (drop at s))
     unfolding call_in
-    no_row r f = let a = number-answered at (read_number (drop at s)) column p e in rw (a.1, drop-drop a.0 at s, ← a.2, no_number r p f)
+    no_row r f =
+        let g = answered-refused p (read_number (drop p s)) r f in
+        let a = answered-got at (read_number (drop at s)) column p e in
+        rw (a.is, drop-drop a.taken at s, ← a.moved, g)
 
-    module _ (row q : ℕ) (f : number.Number row q ≡ number_answer p (read_number (drop p s))) where
-      pub no_mode : (r : Refusal) → number.Refused r ≡ number_answer q (read_number (drop q s)) → one.Refused NumberForm ≡ call_answer at (call_in (drop at s))
+    module _ (row q : ℕ) (f : Ok (row, q) ≡ answered p (read_number (drop p s))) where
+      pub no_mode : (r : Refusal) → Err r ≡ answered q (read_number (drop q s)) → Err r ≡ answered at (call_in (drop at s))
       unfolding call_in
       no_mode r g =
-          let a = number-answered at (read_number (drop at s)) column p e in
-          let b = number-answered p (read_number (drop p s)) row q f in
-          rw (a.1, drop-drop a.0 at s, ← a.2, b.1, drop-drop b.0 p s, ← b.2, no_number r q g)
+          let k = answered-refused q (read_number (drop q s)) r g in
+          let a = answered-got at (read_number (drop at s)) column p e in
+          let b = answered-got p (read_number (drop p s)) row q f in
+          rw (a.is, drop-drop a.taken at s, ← a.moved, b.is, drop-drop b.taken p s, ← b.moved, k)
 
-      pub whole : (mode next : ℕ) → number.Number mode next ≡ number_answer q (read_number (drop q s)) → one.Call (call_of column row mode) next ≡ call_answer at (call_in (drop at s))
+      pub whole : (mode next : ℕ) → Ok (mode, next) ≡ answered q (read_number (drop q s)) → Ok (call_of column row mode, next) ≡ answered at (call_in (drop at s))
       unfolding call_in
       whole mode next g =
-          let a = number-answered at (read_number (drop at s)) column p e in
-          let b = number-answered p (read_number (drop p s)) row q f in
-          let c = number-answered q (read_number (drop q s)) mode next g in
-          rw (a.1, drop-drop a.0 at s, ← a.2, b.1, drop-drop b.0 p s, ← b.2, c.1) (ap (one.Call (call_of column row mode)) (omega (arith, a.2, b.2, c.2)))
-
--- what it said of the definition
-pub call-answered : (at : ℕ) (g : Got Call) (call : Call) (next : ℕ) → one.Call call next ≡ call_answer at g → (n : ℕ) × (g ≡ got call n) × (next ≡ at + n)
-call-answered at (got c n) call next e = (n, (let h = e in cc), (let h = e in cc))
-call-answered at (refused r) call next e = absurd (let z : ◌≡◌ {A = ℕ} 0 1 = cc in omega arith)
-
-pub call-refused : (at : ℕ) (g : Got Call) (r : Refusal) → one.Refused r ≡ call_answer at g → g ≡ refused r
-call-refused at (got c n) r e = absurd (let z : ◌≡◌ {A = ℕ} 0 1 = cc in omega arith)
-call-refused at (refused r') r e = cc
+          let a = answered-got at (read_number (drop at s)) column p e in
+          let b = answered-got p (read_number (drop p s)) row q f in
+          let c = answered-got q (read_number (drop q s)) mode next g in
+          rw (a.is, drop-drop a.taken at s, ← a.moved, b.is, drop-drop b.taken p s, ← b.moved, c.is) (ap (λ (n : ℕ). Ok (call_of column row mode, n)) (omega (arith, a.moved, b.moved, c.moved)))
 
 -- ---- how many there are, as a loop counts them
-pub calls-tally : (s : List ℕ) → calls_answer (calls s) ≡ tally all.Calls all.Refused 0 (until_all call_in s)
+pub calls-tally : (s : List ℕ) → calls_answer (calls s) ≡ tally Ok Err 0 (until_all call_in s)
 unfolding calls calls_in
 calls-tally s = go (until_all call_in s)
   where
-    go : (g : Got (List Call)) → calls_answer g ≡ tally all.Calls all.Refused 0 g
-    go (got cs n) = ap all.Calls (omega arith)
+    go : (g : Got (List Call)) → calls_answer g ≡ tally Ok Err 0 g
+    go (got cs n) = ap Ok (omega arith)
     go (refused r) = refl

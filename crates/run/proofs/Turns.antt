@@ -9,9 +9,8 @@ use Rattle.refusal.specs.Got.{Got}
 use Rattle.refusal.specs.declared.Refusal.{Refusal}
 use Rattle.state.specs.declared.Call.{Call}
 use Rattle.run.specs.Calls.{call_in, calls}
-use Rattle.run.specs.InnerCalls.{call_answer}
-use Rattle.run.specs.declared.calls.CallAnswer.{CallAnswer}
-use Rattle.run.specs.declared.calls.CallAnswer.TheVariants as one
+use Rattle.refusal.specs.Answered.{answered}
+use Rattle.std.specs.Prelude.{Result}
 use Rattle.refusal.proofs.Lists.{Next}
 use Rattle.run.proofs.Listing.{calls-none, calls-next}
 use Rattle.state.specs.State.{State}
@@ -19,12 +18,11 @@ use Rattle.macroblock.specs.Decode.{Outcome, decoded}
 use Rattle.macroblock.specs.Entry.{quantiser_by}
 use Rattle.macroblock.proofs.Answers.{refused-kept, accepted-on}
 use Rattle.macroblock.specs.declared.MbReport.{MbReport}
-use Rattle.macroblock.specs.declared.MbAnswer.{MbAnswer}
-use Rattle.macroblock.specs.declared.MbAnswer.TheVariants.{Accepted, Refused}
+use Rattle.macroblock.specs.Decode.{MbAnswer}
+use Rattle.std.specs.Prelude.{Ok, Err}
 use Rattle.run.specs.Run.{ended, with_call, onward, ran_from}
 use Rattle.run.specs.Left.{Left, report_of, leaves}
 use Rattle.run.specs.InnerLeft.{Listed, from_of, calls_left}
-use Rattle.run.specs.declared.Stop.TheVariants.{Done, By}
 
 -- ---- the run
 -- `accepted` calls were made, the list is read up to `at`, and the next call is at place p
@@ -38,12 +36,12 @@ pub record Going (whole : Left) (s : State) (list bits : List ℕ) (place at p :
 
 module _ {whole : Left} {s : State} {list bits : List ℕ} {place at p : ℕ} {t : List ℕ} {fill accepted consumed : ℕ} (g : Going whole s list bits place at p t fill accepted consumed) where
   -- no call is left
-  pub end : length list ≤ at → record { report = report_of accepted consumed p s.quantiser fill Done; state = s; transcript = t } ≡ whole
+  pub end : length list ≤ at → record { report = report_of accepted consumed p s.quantiser fill (Ok tt); state = s; transcript = t } ≡ whole
   unfolding leaves ran_from ended
   end h =
       let e = calls-none (drop at list) g.listed.cs g.listed.taken (length-drop at list ∙ omega arith) g.listed.is in
       let z : accepted ≡ accepted + 0 = omega arith in
-      (λ i. record { report = report_of (z i) (g.counted i) p s.quantiser fill Done; state = s; transcript = t })
+      (λ i. record { report = report_of (z i) (g.counted i) p s.quantiser fill (Ok tt); state = s; transcript = t })
       ∙ ap (λ (cs : List Call). leaves accepted place (ran_from s cs bits p t fill)) (sym e) ∙ g.same
 
   module _ (lt : at < length list) where
@@ -51,20 +49,20 @@ module _ {whole : Left} {s : State} {list bits : List ℕ} {place at p : ℕ} {t
     next-call = calls-next list at g.listed.cs g.listed.taken lt g.listed.is
 
     -- the list is in form
-    pub in-form : {A : Type 0} {why : Refusal} → one.Refused why ≡ call_answer at (call_in (drop at list)) → A
-    in-form e = let x = e ∙ ap (call_answer at) next-call.reads in absurd (let z : ◌≡◌ {A = ℕ} 0 1 = cc in omega arith)
+    pub in-form : {A : Type 0} {why : Refusal} → Err why ≡ answered at (call_in (drop at list)) → A
+    in-form e = let x = e ∙ ap (answered at) next-call.reads in absurd (let z : ◌≡◌ {A = ℕ} 0 1 = cc in omega arith)
 
     -- a call was read, and answered; the slices make the state S q with the quantiser q
-    module _ {call : Call} {next : ℕ} (e : one.Call call next ≡ call_answer at (call_in (drop at list))) (q : ℕ) (sq : s.quantiser ≡ q) (S : ℕ → State) (a : MbAnswer) (t' : List ℕ)
+    module _ {call : Call} {next : ℕ} (e : Ok (call, next) ≡ answered at (call_in (drop at list))) (q : ℕ) (sq : s.quantiser ≡ q) (S : ℕ → State) (a : MbAnswer) (t' : List ℕ)
         (o : ◌≡◌ {A = Outcome} (record { answer = a; state = S (quantiser_by q a); transcript = t' }) (decoded s call bits p t fill)) where
-      read_as : ◌≡◌ {A = CallAnswer} (one.Call call next) (one.Call next-call.x (at + next-call.k))
-      read_as = e ∙ ap (call_answer at) next-call.reads
+      read_as : ◌≡◌ {A = (Result (Call × ℕ) Refusal)} (Ok (call, next)) (Ok (next-call.x, at + next-call.k))
+      read_as = e ∙ ap (answered at) next-call.reads
 
       same-call : next-call.x ≡ call
-      same-call = let x = read_as in cc
+      same-call = let x : (next-call.x, at + next-call.k) ≡ (call, next) = (let y = read_as in cc) in ap (λ (q : Call × ℕ). q.0) x
 
       next-is : next ≡ at + next-call.k
-      next-is = let x = read_as in cc
+      next-is = let x : (next-call.x, at + next-call.k) ≡ (call, next) = (let y = read_as in cc) in sym (ap (λ (q : Call × ℕ). q.1) x)
 
       this : ran_from s g.listed.cs bits p t fill ≡ ran_from s (call ∷ next-call.rest) bits p t fill
       this = ap (λ (cs : List Call). ran_from s cs bits p t fill) next-call.is ∙ ap (λ (c : Call). ran_from s (c ∷ next-call.rest) bits p t fill) same-call
@@ -76,8 +74,8 @@ module _ {whole : Left} {s : State} {list bits : List ℕ} {place at p : ℕ} {t
       told : {b : MbAnswer} → a ≡ b → record { answer = b; state = S (quantiser_by q b); transcript = t' } ≡ decoded s call bits p t fill
       told h = ap (λ (b : MbAnswer). record { answer = b; state = S (quantiser_by q b); transcript = t' }) (sym h) ∙ o
 
-      pub stopped : {why : Refusal} → a ≡ Refused why
-          → record { report = report_of accepted consumed p q fill (By why); state = S q; transcript = t' } ≡ whole
+      pub stopped : {why : Refusal} → a ≡ Err why
+          → record { report = report_of accepted consumed p q fill (Err why); state = S q; transcript = t' } ≡ whole
       unfolding leaves ran_from ended
       stopped {why} h =
           let d = told h in
@@ -85,18 +83,18 @@ module _ {whole : Left} {s : State} {list bits : List ℕ} {place at p : ℕ} {t
           let es : S q ≡ s = ap (λ (x : Outcome). x.state) k in
           let et : t' ≡ t = ap (λ (x : Outcome). x.transcript) k in
           let z : accepted ≡ accepted + 0 = omega arith in
-          (λ i. record { report = report_of (z i) (g.counted i) p q fill (By why); state = S q; transcript = t' })
-          ∙ ap (λ (x : State). record { report = report_of (accepted + 0) (p - place) p q fill (By why); state = x; transcript = t' }) es
-          ∙ ap (λ (x : List ℕ). record { report = report_of (accepted + 0) (p - place) p q fill (By why); state = s; transcript = x }) et
-          ∙ ap (λ (x : ℕ). record { report = report_of (accepted + 0) (p - place) p x fill (By why); state = s; transcript = t }) (sym sq)
+          (λ i. record { report = report_of (z i) (g.counted i) p q fill (Err why); state = S q; transcript = t' })
+          ∙ ap (λ (x : State). record { report = report_of (accepted + 0) (p - place) p q fill (Err why); state = x; transcript = t' }) es
+          ∙ ap (λ (x : List ℕ). record { report = report_of (accepted + 0) (p - place) p q fill (Err why); state = s; transcript = x }) et
+          ∙ ap (λ (x : ℕ). record { report = report_of (accepted + 0) (p - place) p x fill (Err why); state = s; transcript = t }) (sym sq)
           ∙ ap (λ (x : Outcome). leaves accepted place (onward call s p t fill x.answer (λ p₁ f₁. ran_from x.state next-call.rest bits p₁ x.transcript f₁))) (sym k ∙ d)
           ∙ ap (leaves accepted place) (sym this) ∙ g.same
 
       -- the place has not moved back
-      pub forward : {report : MbReport} → a ≡ Accepted report → p ≤ report.place
+      pub forward : {report : MbReport} → a ≡ Ok report → p ≤ report.place
       forward h = accepted-on s call bits p t fill (told h) refl
 
-      pub on : {report : MbReport} → a ≡ Accepted report → Going whole (S report.quantiser) list bits place next report.place t' report.fill (accepted + 1) (consumed + (report.place - p))
+      pub on : {report : MbReport} → a ≡ Ok report → Going whole (S report.quantiser) list bits place next report.place t' report.fill (accepted + 1) (consumed + (report.place - p))
       unfolding leaves ran_from with_call
       on {report} h =
           let d = told h in

@@ -11,20 +11,19 @@ use Rattle.state.specs.Questions.{ask_run}
 use Rattle.state.specs.declared.Call.{Call}
 use Rattle.run.specs.Calls.{calls}
 use Rattle.run.specs.InnerCalls.{calls_answer}
-use Rattle.run.specs.declared.calls.CallsAnswer.TheVariants.{Calls, Refused}
+use Rattle.std.specs.Prelude.{Ok, Err}
 use Rattle.state.specs.State.{State, lengths_of}
-use Rattle.run.specs.Run.{ended, ran, ran_of, ran_list, stop_of}
+use Rattle.run.specs.Run.{ended, ran, ran_of, ran_list}
 use Rattle.run.specs.Left.{report_of, leaves, list_left}
 use Rattle.run.specs.InnerLeft.{Listed, from_of, calls_left}
-use Rattle.run.specs.declared.Stop.TheVariants.{By}
 
-apart : {A : Type 0} {why : Refusal} {n : ℕ} → Calls n ≡ Refused why → A
+apart : {A : Type 0} {why : Refusal} {n : ℕ} → Ok n ≡ Err why → A
 apart e = absurd (let z : ◌≡◌ {A = ℕ} 0 1 = cc in omega arith)
 
-pub listed : (list : List ℕ) {n : ℕ} → Calls n ≡ calls_answer (calls list) → Listed list
+pub listed : (list : List ℕ) {n : ℕ} → Ok n ≡ calls_answer (calls list) → Listed list
 listed list {n} e = go (calls list) refl e
   where
-    go : (g : Got (List Call)) → calls list ≡ g → Calls n ≡ calls_answer g → Listed list
+    go : (g : Got (List Call)) → calls list ≡ g → Ok n ≡ calls_answer g → Listed list
     go (got cs k) x h = record { cs = cs; taken = k; is = x }
     go (refused w) x h = apart h
 
@@ -33,22 +32,22 @@ module _ (s : State) (list bits : List ℕ) (place : ℕ) (t : List ℕ) where
   none-taken : 0 ≡ place - place
   none-taken = omega arith
 
-  pub refused-list : {why : Refusal} → Refused why ≡ calls_answer (calls list) → record { report = report_of 0 0 place s.quantiser 0 (By why); state = s; transcript = t } ≡ list_left s list bits place t
+  pub refused-list : {why : Refusal} → Err why ≡ calls_answer (calls list) → record { report = report_of 0 0 place s.quantiser 0 (Err why); state = s; transcript = t } ≡ list_left s list bits place t
   unfolding list_left ran_list leaves ended
   refused-list {why} e = go (calls list) e
     where
-      go : (g : Got (List Call)) → Refused why ≡ calls_answer g → record { report = report_of 0 0 place s.quantiser 0 (By why); state = s; transcript = t } ≡ leaves 0 place (ran_of s g bits place t)
+      go : (g : Got (List Call)) → Err why ≡ calls_answer g → record { report = report_of 0 0 place s.quantiser 0 (Err why); state = s; transcript = t } ≡ leaves 0 place (ran_of s g bits place t)
       go (got cs n) h = apart (sym h)
-      go (refused w) h = let x : why ≡ w = cc in (λ i. record { report = report_of 0 (none-taken i) place s.quantiser 0 (By (x i)); state = s; transcript = t })
+      go (refused w) h = let x : why ≡ w = cc in (λ i. record { report = report_of 0 (none-taken i) place s.quantiser 0 (Err (x i)); state = s; transcript = t })
 
-  module _ {n : ℕ} (e : Calls n ≡ calls_answer (calls list)) where
-    pub no_call : n ≡ 0 → record { report = report_of 0 0 place s.quantiser 0 (stop_of (ask_run s.cols s.rows (lengths_of s) s.quantiser (length bits) place)); state = s; transcript = t } ≡ list_left s list bits place t
+  module _ {n : ℕ} (e : Ok n ≡ calls_answer (calls list)) where
+    pub no_call : n ≡ 0 → record { report = report_of 0 0 place s.quantiser 0 (ask_run s.cols s.rows (lengths_of s) s.quantiser (length bits) place); state = s; transcript = t } ≡ list_left s list bits place t
     unfolding list_left ran_list leaves ended ran
     no_call z = go (calls list) e
       where
-        go : (g : Got (List Call)) → Calls n ≡ calls_answer g
-            → record { report = report_of 0 0 place s.quantiser 0 (stop_of (ask_run s.cols s.rows (lengths_of s) s.quantiser (length bits) place)); state = s; transcript = t } ≡ leaves 0 place (ran_of s g bits place t)
-        go (got [] k) h = ap (λ (taken : ℕ). record { report = report_of 0 taken place s.quantiser 0 (stop_of (ask_run s.cols s.rows (lengths_of s) s.quantiser (length bits) place)); state = s; transcript = t }) none-taken
+        go : (g : Got (List Call)) → Ok n ≡ calls_answer g
+            → record { report = report_of 0 0 place s.quantiser 0 (ask_run s.cols s.rows (lengths_of s) s.quantiser (length bits) place); state = s; transcript = t } ≡ leaves 0 place (ran_of s g bits place t)
+        go (got [] k) h = ap (λ (taken : ℕ). record { report = report_of 0 taken place s.quantiser 0 (ask_run s.cols s.rows (lengths_of s) s.quantiser (length bits) place); state = s; transcript = t }) none-taken
         go (got (c ∷ cs) k) h = absurd (let x : n ≡ length (c ∷ cs) = cc in omega arith)
         go (refused w) h = apart h
 
@@ -56,7 +55,7 @@ module _ (s : State) (list bits : List ℕ) (place : ℕ) (t : List ℕ) where
     unfolding list_left calls_left ran_list ran
     some-calls z = go (calls list) e
       where
-        go : (g : Got (List Call)) → Calls n ≡ calls_answer g → leaves 0 place (from_of s g bits place t 0) ≡ leaves 0 place (ran_of s g bits place t)
+        go : (g : Got (List Call)) → Ok n ≡ calls_answer g → leaves 0 place (from_of s g bits place t 0) ≡ leaves 0 place (ran_of s g bits place t)
         go (got [] k) h = absurd (z (let x : n ≡ length {A = Call} [] = cc in omega arith))
         go (got (c ∷ cs) k) h = refl
         go (refused w) h = refl

@@ -4,7 +4,7 @@ use Rattle.std.specs.Prelude.{List, ℕ, ◌+◌, ◌-◌, length}
 use Rattle.state.specs.State.{State}
 use Rattle.run.specs.Run.{Ran, ran_list}
 use Rattle.run.specs.declared.Report.{Report}
-use Rattle.run.specs.declared.Stop.{Stop}
+use Rattle.run.specs.Run.{Stop}
 
 -- what is said of a run, and what it leaves
 pub record Left : Type 0 where

@@ -5,20 +5,10 @@ pub mod run;
 
 ghost use Rattle.std.specs.Prelude.{◌≡◌};
 ghost use Rattle.state.specs.Questions.{ask_run};
-ghost use Rattle.run.specs.Run.{stop_of};
 ghost use Rattle.run.specs.Left.{report_of};
 
 use refusal::Refusal;
-use state::{Asked, Frame, Lengths, ask_run};
-
-// Why a run ended.
-#[derive(Clone, Copy)]
-pub enum Stop {
-    // every call was made
-    Done,
-    // the refusal that stopped it
-    By(Refusal),
-}
+use state::{Frame, Lengths, ask_run};
 
 // What a run did: the accepted calls and the bits that they consumed, as made; then the place, the quantiser and the transcript's fill.
 #[derive(Clone, Copy)]
@@ -28,7 +18,8 @@ pub struct Report {
     pub place: usize,
     pub quantiser: u32,
     pub fill: usize,
-    pub stop: Stop,
+    // every call was made, or the refusal that stopped the run
+    pub stop: Result<(), Refusal>,
 }
 
 pub fn report_of(
@@ -37,7 +28,7 @@ pub fn report_of(
     place: usize,
     quantiser: u32,
     fill: usize,
-    stop: Stop,
+    stop: Result<(), Refusal>,
 ) -> Report
     ensures { result ≡ report_of accepted consumed place quantiser fill stop }
 {
@@ -53,10 +44,14 @@ pub fn report_of(
 
 // A run with no call: its questions are asked all the same.
 pub fn run_nothing(frame: Frame, l: Lengths, quantiser: u32, size: usize, place: usize) -> Report
-    ensures { result ≡ report_of 0 0 place quantiser 0 (stop_of (ask_run frame.grid.cols frame.grid.rows l quantiser size place)) }
+    ensures { result ≡ report_of 0 0 place quantiser 0 (ask_run frame.grid.cols frame.grid.rows l quantiser size place) }
 {
-    match ask_run(frame.grid, l, quantiser, size, place) {
-        Asked::Yes => report_of(0, 0, place, quantiser, 0, Stop::Done),
-        Asked::No(why) => report_of(0, 0, place, quantiser, 0, Stop::By(why)),
-    }
+    report_of(
+        0,
+        0,
+        place,
+        quantiser,
+        0,
+        ask_run(frame.grid, l, quantiser, size, place),
+    )
 }

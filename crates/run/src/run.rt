@@ -4,9 +4,8 @@ ghost use Rattle.macroblock.specs.Entry.{state_before, state_after};
 ghost use Rattle.run.specs.InnerLeft.{Listed, calls_left};
 ghost use Rattle.run.specs.Left.{run_left, list_left};
 
-use crate::calls::{CallAnswer, CallsAnswer, check_calls, read_call};
-use crate::{Report, Stop, report_of, run_nothing};
-use macroblock::MbAnswer;
+use crate::calls::{check_calls, read_call};
+use crate::{Report, report_of, run_nothing};
 use macroblock::svq3_frame::decode_inter_mb;
 use refusal::Refusal;
 use state::{Frame, Lengths};
@@ -39,20 +38,13 @@ fn run_calls(
     let mut consumed = 0;
     let mut at = 0;
     while at < list.len() {
-        let CallAnswer::Call(call, next) = read_call(list, at) else {
-            return report_of(
-                accepted,
-                consumed,
-                p,
-                q,
-                fill,
-                Stop::By(Refusal::NumberForm),
-            );
+        let Ok((call, next)) = read_call(list, at) else {
+            return report_of(accepted, consumed, p, q, fill, Err(Refusal::NumberForm));
         };
         match decode_inter_mb(
             y, cb, cr, mv, marks, transcript, ry, rcb, rcr, bits, frame, call, q, p, fill,
         ) {
-            MbAnswer::Accepted(report) => {
+            Ok(report) => {
                 consumed += report.place - p;
                 p = report.place;
                 q = report.quantiser;
@@ -60,12 +52,12 @@ fn run_calls(
                 accepted += 1;
                 at = next;
             }
-            MbAnswer::Refused(why) => {
-                return report_of(accepted, consumed, p, q, fill, Stop::By(why));
+            Err(why) => {
+                return report_of(accepted, consumed, p, q, fill, Err(why));
             }
         }
     }
-    report_of(accepted, consumed, p, q, fill, Stop::Done)
+    report_of(accepted, consumed, p, q, fill, Ok(()))
 }
 
 // Makes the calls of a list in order, the first at the given bit place, and stops at the first refusal, keeping what earlier calls did.
@@ -89,7 +81,7 @@ pub fn run(
         ≡ list_left (state_before frame quantiser ry rcb rcr y cb cr mv marks) list.now bits.now place transcript.old }
 {
     match check_calls(list) {
-        CallsAnswer::Calls(n) => {
+        Ok(n) => {
             if n == 0 {
                 let l = Lengths {
                     y: y.len(),
@@ -107,6 +99,6 @@ pub fn run(
                 y, cb, cr, mv, marks, transcript, ry, rcb, rcr, bits, list, frame, quantiser, place,
             )
         }
-        CallsAnswer::Refused(why) => report_of(0, 0, place, quantiser, 0, Stop::By(why)),
+        Err(why) => report_of(0, 0, place, quantiser, 0, Err(why)),
     }
 }

@@ -18,20 +18,20 @@ nothing s r = run_left r (state_now s.args.frame r.quantiser s.args.ry s.args.rc
 pub returns-then-n-eq0 : goal.returns-then-n-eq0
 returns-then-n-eq0 c =
     ap (nothing (goal.at.returns-then-n-eq0 c).Start) c.run_nothing.ensures
-    ∙ no_call (S (goal.at.returns-then-n-eq0 c).Start) c.args.list.now c.args.bits.now c.args.place c.args.transcript.now (sym c.in-Calls.is ∙ c.check_calls.ensures) c.if-n-eq0.true
+    ∙ no_call (S (goal.at.returns-then-n-eq0 c).Start) c.args.list.now c.args.bits.now c.args.place c.args.transcript.now (sym c.in-Ok.is ∙ c.check_calls.ensures) c.if-n-eq0.true
 
 pub run_calls-requires : goal.run_calls-requires
-run_calls-requires c = listed c.args.list.now (sym c.in-Calls.is ∙ c.check_calls.ensures)
+run_calls-requires c = listed c.args.list.now (sym c.in-Ok.is ∙ c.check_calls.ensures)
 
 pub returns-else-n-eq0 : goal.returns-else-n-eq0
 returns-else-n-eq0 c =
     c.run_calls.ensures
-    ∙ some-calls (S (goal.at.returns-else-n-eq0 c).Start) c.args.list.now c.args.bits.now c.args.place c.args.transcript.now (sym c.in-Calls.is ∙ c.check_calls.ensures) c.if-n-eq0.false
+    ∙ some-calls (S (goal.at.returns-else-n-eq0 c).Start) c.args.list.now c.args.bits.now c.args.place c.args.transcript.now (sym c.in-Ok.is ∙ c.check_calls.ensures) c.if-n-eq0.false
 
-pub returns-in-Refused : goal.returns-in-Refused
-returns-in-Refused c =
-    ap (nothing (goal.at.returns-in-Refused c).Start) c.report_of.ensures
-    ∙ refused-list (S (goal.at.returns-in-Refused c).Start) c.args.list.now c.args.bits.now c.args.place c.args.transcript.now (sym c.in-Refused.is ∙ c.check_calls.ensures)
+pub returns-in-Err : goal.returns-in-Err
+returns-in-Err c =
+    ap (nothing (goal.at.returns-in-Err c).Start) c.report_of.ensures
+    ∙ refused-list (S (goal.at.returns-in-Err c).Start) c.args.list.now c.args.bits.now c.args.place c.args.transcript.now (sym c.in-Err.is ∙ c.check_calls.ensures)
 
 pub check_calls-requires : goal.check_calls-requires
 check_calls-requires c = tt

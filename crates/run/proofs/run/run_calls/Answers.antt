@@ -11,14 +11,14 @@ use Rattle.run.proofs.run.run_calls.Goals as goal
 
 -- ---- an accepted call
 -- its place is not before the last
-moved_on : (c : After-struct_known-1) → c.loop-at.p ≤ c.in-Accepted.report.place
+moved_on : (c : After-struct_known-1) → c.loop-at.p ≤ c.in-Ok-decode_inter_mb.report.place
 moved_on c =
     let l = c.loop-at in
     let a = c.args in
     let d = c.decode_inter_mb in
-    forward l.invariant.6 c.loop-at-test.true (sym c.in-Call.is ∙ c.read_call.ensures) l.q refl
+    forward l.invariant.6 c.loop-at-test.true (sym c.in-Ok.is ∙ c.read_call.ensures) l.q refl
     (λ q. state_of a.frame q a.ry.now a.rcb.now a.rcr.now d.new.y d.new.cb d.new.cr d.new.mv d.new.marks)
-    d.result d.new.transcript d.ensures c.in-Accepted.is
+    d.result d.new.transcript d.ensures c.in-Ok-decode_inter_mb.is
 
 pub loop-at-init : goal.loop-at-init
 loop-at-init c = (refl, refl, refl, refl, refl, refl, start c.requires)
@@ -54,7 +54,7 @@ loop-at-smaller c =
     omega (
       arith,
       c.loop-at-test.true,
-      further l.invariant.6 c.loop-at-test.true (sym c.in-Call.is ∙ c.read_call.ensures) l.q refl
+      further l.invariant.6 c.loop-at-test.true (sym c.in-Ok.is ∙ c.read_call.ensures) l.q refl
           (λ q. state_of a.frame q a.ry.now a.rcb.now a.rcr.now d.new.y d.new.cb d.new.cr d.new.mv d.new.marks)
           d.result d.new.transcript d.ensures,
     )
@@ -70,23 +70,23 @@ loop-at-preserved c =
       d.auto.mv ∙ l.invariant.3,
       d.auto.marks ∙ l.invariant.4,
       d.auto.transcript ∙ l.invariant.5,
-      on l.invariant.6 c.loop-at-test.true (sym c.in-Call.is ∙ c.read_call.ensures) l.q refl
+      on l.invariant.6 c.loop-at-test.true (sym c.in-Ok.is ∙ c.read_call.ensures) l.q refl
           (λ q. state_of a.frame q a.ry.now a.rcb.now a.rcr.now d.new.y d.new.cb d.new.cr d.new.mv d.new.marks)
-          d.result d.new.transcript d.ensures c.in-Accepted.is,
+          d.result d.new.transcript d.ensures c.in-Ok-decode_inter_mb.is,
     )
 
-pub report_of-requires-in-Refused : goal.report_of-requires-in-Refused
-report_of-requires-in-Refused c = tt
+pub report_of-requires-in-Err : goal.report_of-requires-in-Err
+report_of-requires-in-Err c = tt
 
-pub returns-in-Refused : goal.returns-in-Refused
-returns-in-Refused c =
+pub returns-in-Err : goal.returns-in-Err
+returns-in-Err c =
     let l = c.loop-at in
     let a = c.args in
     let d = c.decode_inter_mb in
-    ap (λ (r : Report). run_left r (state_of a.frame r.quantiser a.ry.now a.rcb.now a.rcr.now d.new.y d.new.cb d.new.cr d.new.mv d.new.marks) d.new.transcript) c.report_of-in-Refused.ensures
-    ∙ stopped l.invariant.6 c.loop-at-test.true (sym c.in-Call.is ∙ c.read_call.ensures) l.q refl
+    ap (λ (r : Report). run_left r (state_of a.frame r.quantiser a.ry.now a.rcb.now a.rcr.now d.new.y d.new.cb d.new.cr d.new.mv d.new.marks) d.new.transcript) c.report_of-in-Err.ensures
+    ∙ stopped l.invariant.6 c.loop-at-test.true (sym c.in-Ok.is ∙ c.read_call.ensures) l.q refl
     (λ q. state_of a.frame q a.ry.now a.rcb.now a.rcr.now d.new.y d.new.cb d.new.cr d.new.mv d.new.marks)
-    d.result d.new.transcript d.ensures c.in-Refused.is
+    d.result d.new.transcript d.ensures c.in-Err.is
 
 pub report_of-requires-2 : goal.report_of-requires-2
 report_of-requires-2 c = tt
