@@ -19,9 +19,8 @@ use Rattle.record.proofs.Padded.{used-most}
 use Rattle.record.proofs.Records.{motion-format, record-format}
 use Rattle.transcript.specs.InnerParsing.{place_answer, Parsing}
 use Rattle.transcript.specs.InnerPlace.{parse_place}
-use Rattle.transcript.specs.declared.parse.ParseAnswer.{ParseAnswer}
-use Rattle.transcript.specs.declared.parse.ParseAnswer.TheVariants.{Parsed, Refused}
-use Rattle.transcript.specs.declared.parse.PlaceAnswer.TheVariants as place
+use Rattle.std.specs.Prelude.{Result, Ok, Err}
+use Rattle.transcript.specs.declared.parse.RecordStart.TheVariants.{Skip, Coded}
 use Rattle.transcript.proofs.Answers.{ParsedBy, parsed, parse-refused}
 use Rattle.transcript.proofs.Places.{not-read, skip_read, coded-read, coded-parsed}
 use Rattle.apply.specs.Apply.{applied_luma, applied_chroma, applied_field}
@@ -38,7 +37,7 @@ module _ (s : State) (bytes : List ℕ) (at : ℕ) where
   none : (why : Refusal) → read ≡ refused why → (next : ℕ) (t : State) → Stepped bytes at next s t
   none why e next t = record { moved = λ r n f. never (sym e ∙ f); leaves = λ r n f. never (sym e ∙ f) }
 
-  pub no_place : (why : Refusal) → place.Refused why ≡ place_answer at (parse_place s.cols s.rows (drop at bytes)) → (next : ℕ) (t : State) → Stepped bytes at next s t
+  pub no_place : (why : Refusal) → Err why ≡ place_answer at (parse_place s.cols s.rows (drop at bytes)) → (next : ℕ) (t : State) → Stepped bytes at next s t
   no_place why e = none why (not-read s.cols s.rows bytes at why e)
 
   -- one is
@@ -46,19 +45,19 @@ module _ (s : State) (bytes : List ℕ) (at : ℕ) where
   done x k next e m t w = record { moved = λ r n f. m ∙ ap (λ (j : ℕ). at + j) (got-count (sym e ∙ f)); leaves = λ r n f. w ∙ ap (applied s) (got-value (sym e ∙ f)) }
 
   -- a skip
-  pub skip_step : (column row next : ℕ) → place.Skip column row next ≡ place_answer at (parse_place s.cols s.rows (drop at bytes)) → (t : State) → t ≡ applied s (skip_record column row)
+  pub skip_step : (column row next : ℕ) → Ok (Skip column row, next) ≡ place_answer at (parse_place s.cols s.rows (drop at bytes)) → (t : State) → t ≡ applied s (skip_record column row)
       → Stepped bytes at next s t
   skip_step column row next e = let r = skip_read s.cols s.rows bytes at column row next e in done (skip_record column row) r.taken next r.is r.moved
 
   -- another one, whose motion was read
-  module _ (h : Head) (next : ℕ) (e : place.Coded h next ≡ place_answer at (parse_place s.cols s.rows (drop at bytes))) (a : ParseAnswer) (vs ls : List ℤ) (p : Parsing next (parse_motion h (drop next bytes)) a vs ls) where
+  module _ (h : Head) (next : ℕ) (e : Ok (Coded h, next) ≡ place_answer at (parse_place s.cols s.rows (drop at bytes))) (a : Result (Head × ℕ) Refusal) (vs ls : List ℤ) (p : Parsing next (parse_motion h (drop next bytes)) a vs ls) where
     whole_is : Parsing at read a vs ls
     whole_is = coded-parsed s.cols s.rows bytes at h next e a vs ls p
 
-    pub no-motion : (why : Refusal) → a ≡ Refused why → (end : ℕ) (t : State) → Stepped bytes at end s t
+    pub no-motion : (why : Refusal) → a ≡ Err why → (end : ℕ) (t : State) → Stepped bytes at end s t
     no-motion why i = none why (parse-refused at read why vs ls (rw i at whole_is))
 
-    module _ (o : Head) (end : ℕ) (i : a ≡ Parsed o end) where
+    module _ (o : Head) (end : ℕ) (i : a ≡ Ok (o, end)) where
       by : ParsedBy at read o end vs ls
       by = parsed at read o end vs ls (rw i at whole_is)
 

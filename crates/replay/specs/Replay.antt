@@ -1,16 +1,19 @@
 -- Replay: the records of a transcript, all read before anything changes, then applied one after another.
 -- Assumes nothing.
-use Rattle.std.specs.Prelude.{List, [], ◌∷◌, ℕ, length}
+use Rattle.std.specs.Prelude.{List, [], ◌∷◌, ℕ, length, Result, Ok, Err}
 use Rattle.refusal.specs.Got.{Got, got, refused}
 use Rattle.state.specs.Questions.{ask_replay}
-use Rattle.state.specs.declared.Asked.{Asked}
-use Rattle.state.specs.declared.Asked.TheVariants.{Yes, No}
+use Rattle.state.specs.Questions.{Asked}
 use Rattle.record.specs.Record.{Record}
 use Rattle.transcript.specs.Records.{records}
 use Rattle.state.specs.State.{State, lengths_of}
 use Rattle.macroblock.specs.Decode.{applied}
-use Rattle.replay.specs.declared.ReplayAnswer.{ReplayAnswer}
-use Rattle.replay.specs.declared.ReplayAnswer.TheVariants.{Replayed, Refused}
+use Rattle.replay.specs.declared.ReplayReport.{ReplayReport}
+use Rattle.refusal.specs.declared.Refusal.{Refusal}
+
+-- the answer to a replay
+abbrev pub ReplayAnswer : Type 0
+ReplayAnswer = Result ReplayReport Refusal
 
 -- each record's work in turn
 unfoldable pub applied_all : State → List Record → State
@@ -22,12 +25,12 @@ pub record Replay : Type 0 where
   pub state : State
 
 unfoldable pub replay_of : State → Got (List Record) → Replay
-replay_of s (got rs n) = let t = applied_all s rs in record { answer = Replayed (record { records = length rs; quantiser = t.quantiser }); state = t }
-replay_of s (refused why) = record { answer = Refused why; state = s }
+replay_of s (got rs n) = let t = applied_all s rs in record { answer = Ok (record { records = length rs; quantiser = t.quantiser }); state = t }
+replay_of s (refused why) = record { answer = Err why; state = s }
 
 abbrev pub unless_asked : Asked → State → Replay → Replay
-unless_asked Yes s done = done
-unless_asked (No why) s done = record { answer = Refused why; state = s }
+unless_asked (Ok _) s done = done
+unless_asked (Err why) s done = record { answer = Err why; state = s }
 
 -- 1 to 4 and 6, then the check of all records, then the work
 unfoldable pub replayed : State → List ℕ → Replay
@@ -35,8 +38,8 @@ replayed s bytes = unless_asked (ask_replay s.cols s.rows (lengths_of s) s.quant
 
 -- the quantiser after an answer: a refused replay keeps it
 abbrev pub quantiser_of : ℕ → ReplayAnswer → ℕ
-quantiser_of q (Replayed report) = report.quantiser
-quantiser_of q (Refused why) = q
+quantiser_of q (Ok report) = report.quantiser
+quantiser_of q (Err why) = q
 
 -- an answer and the state that the slices make
 abbrev pub replay_left : ReplayAnswer → State → Replay

@@ -3,17 +3,9 @@
 pub mod redo;
 pub mod replay;
 
-use refusal::Refusal;
-
 // The number of records, and the quantiser after them.
 #[derive(Clone, Copy)]
 pub struct ReplayReport {
     pub records: usize,
     pub quantiser: u32,
-}
-
-#[derive(Clone, Copy)]
-pub enum ReplayAnswer {
-    Replayed(ReplayReport),
-    Refused(Refusal),
 }

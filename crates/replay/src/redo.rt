@@ -1,5 +1,5 @@
 // One record of a transcript, its work done again.
-ghost use Rattle.std.specs.Prelude.{◌≡◌, ◌≤◌, drop};
+ghost use Rattle.std.specs.Prelude.{◌≡◌, ◌≤◌, drop, Ok};
 ghost use Rattle.state.specs.InnerSizes.{AllSized, lent_lengths};
 ghost use Rattle.transcript.specs.InnerParsing.{place_answer};
 ghost use Rattle.transcript.specs.InnerPlace.{parse_place};
@@ -9,7 +9,7 @@ ghost use Rattle.replay.specs.InnerStepped.{Stepped};
 use apply::applied::{apply_coded, apply_skip};
 use record::Head;
 use state::Frame;
-use transcript::parse::{ParseAnswer, PlaceAnswer, parse_motion, parse_place};
+use transcript::parse::{RecordStart, parse_motion, parse_place};
 
 // The quantiser after a record, and the place behind it.
 #[derive(Clone, Copy)]
@@ -35,15 +35,14 @@ fn replay_coded(
     head: Head,
     next: usize,
 ) -> Step
-    requires cols_bound { (frame.grid.cols ≤ 4096) × (frame.grid.rows ≤ 4096) × (PlaceAnswer.Coded head next ≡ place_answer at (parse_place frame.grid.cols frame.grid.rows (drop at bytes.now))) }
+    requires cols_bound { (frame.grid.cols ≤ 4096) × (frame.grid.rows ≤ 4096) × (Ok (RecordStart.Coded head, next) ≡ place_answer at (parse_place frame.grid.cols frame.grid.rows (drop at bytes.now))) }
     requires all_sized { AllSized frame.grid.cols frame.grid.rows (lent_lengths y cb cr mv marks ry rcb rcr) }
     ensures { Stepped bytes.now at result.next (state_before frame quantiser ry rcb rcr y cb cr mv marks)
         (state_after frame result.quantiser ry rcb rcr y cb cr mv marks) }
 {
     let mut vectors = [0i32; 32];
     let mut levels = [0i32; 392];
-    let ParseAnswer::Parsed(coded, end) = parse_motion(&mut vectors, &mut levels, bytes, next, head)
-    else {
+    let Ok((coded, end)) = parse_motion(&mut vectors, &mut levels, bytes, next, head) else {
         return Step { quantiser, next };
     };
     apply_coded(
@@ -76,7 +75,7 @@ pub fn replay_record(
         (state_after frame result.quantiser ry rcb rcr y cb cr mv marks) }
 {
     match parse_place(bytes, at, frame.grid) {
-        PlaceAnswer::Skip(column, row, next) => {
+        Ok((RecordStart::Skip(column, row), next)) => {
             apply_skip(
                 y,
                 cb,
@@ -92,10 +91,10 @@ pub fn replay_record(
             );
             Step { quantiser, next }
         }
-        PlaceAnswer::Coded(head, next) => replay_coded(
+        Ok((RecordStart::Coded(head), next)) => replay_coded(
             y, cb, cr, mv, marks, ry, rcb, rcr, bytes, frame, quantiser, at, head, next,
         ),
-        PlaceAnswer::Refused(_) => Step {
+        Err(_) => Step {
             quantiser,
             next: at,
         },

@@ -5,10 +5,11 @@ ghost use Rattle.macroblock.specs.Entry.{state_before, state_after};
 ghost use Rattle.replay.specs.Replay.{replayed, quantiser_of, replay_left};
 ghost use Rattle.replay.specs.InnerRecorded.{Recorded, all_left};
 
+use crate::ReplayReport;
 use crate::redo::replay_record;
-use crate::{ReplayAnswer, ReplayReport};
-use state::{Asked, Frame, Lengths, ask_replay};
-use transcript::check::{CheckAnswer, check_records};
+use refusal::Refusal;
+use state::{Frame, Lengths, ask_replay};
+use transcript::check::check_records;
 
 // The work of all records of a transcript that passed the check; answers the quantiser afterwards.
 fn replay_records(
@@ -52,7 +53,7 @@ pub fn replay(
     bytes: &[u8],
     frame: Frame,
     quantiser: u32,
-) -> ReplayAnswer
+) -> Result<ReplayReport, Refusal>
     ensures { replay_left result (state_after frame (quantiser_of quantiser result) ry rcb rcr y cb cr mv marks)
         ≡ replayed (state_before frame quantiser ry rcb rcr y cb cr mv marks) bytes.now }
 {
@@ -66,17 +67,8 @@ pub fn replay(
         rcb: rcb.len(),
         rcr: rcr.len(),
     };
-    match ask_replay(frame.grid, l, quantiser) {
-        Asked::Yes => match check_records(bytes, frame.grid) {
-            CheckAnswer::Records(n) => {
-                let q = replay_records(y, cb, cr, mv, marks, ry, rcb, rcr, bytes, frame, quantiser);
-                ReplayAnswer::Replayed(ReplayReport {
-                    records: n,
-                    quantiser: q,
-                })
-            }
-            CheckAnswer::Refused(why) => ReplayAnswer::Refused(why),
-        },
-        Asked::No(why) => ReplayAnswer::Refused(why),
-    }
+    ask_replay(frame.grid, l, quantiser)?;
+    let records = check_records(bytes, frame.grid)?;
+    let quantiser = replay_records(y, cb, cr, mv, marks, ry, rcb, rcr, bytes, frame, quantiser);
+    Ok(ReplayReport { records, quantiser })
 }

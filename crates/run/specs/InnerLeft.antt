@@ -6,7 +6,7 @@ use Rattle.state.specs.declared.Call.{Call}
 use Rattle.run.specs.Calls.{calls}
 use Rattle.state.specs.State.{State}
 use Rattle.run.specs.Run.{Ran, ran_from, ended}
-use Rattle.std.specs.Prelude.{Ok, Err}
+use Rattle.std.specs.Prelude.{Err}
 use Rattle.run.specs.Left.{Left, leaves}
 
 -- a list in form

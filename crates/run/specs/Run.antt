@@ -7,7 +7,6 @@ use Rattle.bits.specs.Bits.{bit_list}
 use Rattle.run.specs.Calls.{calls}
 use Rattle.state.specs.Questions.{ask_run}
 use Rattle.state.specs.declared.Call.{Call}
-use Rattle.state.specs.Questions.{Asked}
 use Rattle.state.specs.State.{State, lengths_of}
 use Rattle.macroblock.specs.Decode.{decoded}
 use Rattle.macroblock.specs.Decode.{MbAnswer}

@@ -25,7 +25,7 @@ returns-in_default c =
 pub apply_coded-requires : goal.apply_coded-requires
 apply_coded-requires c =
     let m = c.parse_motion in
-    let is = c.in-Parsed.is in record {
+    let is = c.in-Ok.is in record {
       cols_bound = (
         c.requires.cols_bound.0,
         c.requires.cols_bound.1,
@@ -41,8 +41,8 @@ pub returns : goal.returns
 returns c =
     let m = c.parse_motion in
     let a = c.apply_coded in
-    let coded = c.in-Parsed.coded in
-    let is = c.in-Parsed.is in
+    let coded = c.in-Ok.coded in
+    let is = c.in-Ok.is in
     coded-step (S (goal.at.returns c).Start) c.args.bytes.now c.args.at c.args.head c.args.next c.requires.cols_bound.2 _ _ _ m.ensures _ _ is (state_of c.args.frame coded.quantiser c.args.ry.now c.args.rcb.now c.args.rcr.now a.new.y a.new.cb a.new.cr a.new.mv a.new.marks)
     (applied-is (S (goal.at.returns c).Start) (record_of coded m.new.vectors m.new.levels) (no-skip (S (goal.at.returns c).Start) c.args.bytes.now c.args.at c.args.head c.args.next c.requires.cols_bound.2 _ _ _ m.ensures _ _ is) a.ensures.y_after a.ensures.cb_after a.ensures.cr_after a.ensures.mv_after a.ensures.marks_after)
 
