@@ -12,8 +12,15 @@ use Rattle.picture.specs.Painted.{Inside, painted}
 use Rattle.picture.specs.InnerRows.{row, rows}
 use Rattle.picture.proofs.Laws.{more, row_same, row_other, row_more, rows-painted, painted-values}
 use Rattle.compensation.specs.InnerKernel.{mixed_taps, mixed_at, mixed_row, mixed_block}
-use Rattle.compensation.specs.InnerLanes.{lane_of, lane_at, tiled, taken_at, Holds, mixed_lane}
+use Rattle.compensation.specs.InnerLanes.{Tile, lane_of, lane_at, tiled, taken_at, Holds, mixed_lane}
 use Rattle.compensation.specs.declared.kernel.Mix.{Mix}
+
+-- ---- sixteen lanes have room for two tiles of eight
+pub roomier : {w h : ℕ} → Tile w h 8 → Tile w h 16
+roomier t = record { across = t.across; down = t.down; room = omega (arith, t.room) }
+
+pub two : {w h : ℕ} → Tile w h 8 → w * h + w * h ≤ 16
+two t = omega (arith, t.room)
 
 -- ---- lane k of a tile of w columns: row k / w, column k % w
 module _ {w : ℕ} (some : 0 < w) where
@@ -100,20 +107,22 @@ module _ (m : Mix) (src : List ℕ) (stride from at w h : ℕ) (room : at + w * 
       let pd = hd r k lr lk ∙ on (m.beside + m.second) in
       lane ∙ (λ j. mixed_taps m (pa j) (pb j) (pc j) (pd j))
 
--- ---- a block that is one tile
-pub tile-whole : {l' : List ℕ} (l t : List ℕ) (s x y at w h : ℕ) (value : ℕ → ℕ → ℕ) → Holds t at w h value → l' ≡ painted s x y w h (tiled t at w) l → l' ≡ painted s x y w h value l
-unfolding Holds
-tile-whole l t s x y at w h value holds stored = stored ∙ painted-values s x y w h (tiled t at w) value l holds
-
 -- ---- blocks one below the other
 inside-rows : {s x y w h size : ℕ} (r t : ℕ) → Inside s x y w h size → r + t ≤ h → Inside s x (y + r) w t size
 inside-rows {s} {x} {y} {w} {h} r t i le =
     let d : (y + r + t) * s ≤ (y + h) * s = mul-le-mul_right s (omega arith) in
     record { some = i.some; across = i.across; down = le_trans d i.down }
 
--- a turn of a loop by tiles of t rows: how far its rows lie, and that its tile lies in the plane
-pub tile-turn : {s x y w h size n : ℕ} (r t stride : ℕ) → Inside s x y w h size → n ≡ size → r + t ≤ h → (r * stride + t * stride ≤ h * stride) × (y + r ≤ size) × Inside s x (y + r) w t n
-tile-turn {s} {x} {y} {w} {h} r t stride i e le = (rw (add-mul r t stride) at (mul-le-mul_right stride le), omega (arith, i.down, le-mul_of_pos_right (y + h) i.some), rw e (inside-rows r t i le))
+-- turn i of a loop by tiles of t rows: how far its rows lie, and that its tile lies in the plane
+pub tile-turn : {s x y w h size n i : ℕ} (t stride : ℕ) → Inside s x y w h size → n ≡ size → i < h / t → (i * t * stride + t * stride ≤ h * stride) × (y + i * t ≤ size) × Inside s x (y + i * t) w t n
+tile-turn {s} {x} {y} {w} {h} {size} {n} {i} t stride inside e l =
+    let r = i * t in
+    let le : r + t ≤ h = omega (arith, more t l, div-add-mod' h t) in
+    (rw (add-mul r t stride) at (mul-le-mul_right stride le), omega (arith, inside.down, le-mul_of_pos_right (y + h) inside.some), rw e (inside-rows r t inside le))
+
+-- all turns are all rows
+pub turns-all : {h i : ℕ} (t : ℕ) → i ≤ h / t → h / t ≤ i → h % t ≡ 0 → i * t ≡ h
+turns-all {h} {i} t most least whole = let e : i ≡ h / t = omega arith in rw e (omega (arith, div-add-mod' h t))
 
 rows_on : (l : List ℕ) (s x y : ℕ) (v : ℕ → ℕ → ℕ) (w r t : ℕ) → rows (rows l s x y v w r) s x (y + r) (λ i. v (r + i)) w t ≡ rows l s x y v w (r + t)
 unfolding rows
@@ -121,16 +130,19 @@ rows_on l s x y v w r zero = rw (add-zero r)
 rows_on l s x y v w r (suc t) = rw (add-suc r t) (rw (add_assoc y r t) (ap (λ (m : List ℕ). row m ((y + (r + t)) * s + x) (v (r + t)) w) (rows_on l s x y v w r t)))
 
 -- a turn of a loop that stores a tile
-pub tile-more : {l l' : List ℕ} (l₀ t : List ℕ) (s x y : ℕ) (m : Mix) (src : List ℕ) (stride from at w h r : ℕ)
-    → l ≡ rows l₀ s x y (mixed_block m src stride from) w r → Holds t at w h (mixed_block m src stride (from + r * stride))
-    → l' ≡ painted s x (y + r) w h (tiled t at w) l → Inside s x (y + r) w h (length l)
-    → l' ≡ rows l₀ s x y (mixed_block m src stride from) w (r + h)
+pub tile-more : {l l' : List ℕ} (l₀ t : List ℕ) (s x y : ℕ) (m : Mix) (src : List ℕ) (stride from at w h i : ℕ)
+    → l ≡ rows l₀ s x y (mixed_block m src stride from) w (i * h) → Holds t at w h (mixed_block m src stride (from + i * h * stride))
+    → l' ≡ painted s x (y + i * h) w h (tiled t at w) l → Inside s x (y + i * h) w h (length l)
+    → l' ≡ rows l₀ s x y (mixed_block m src stride from) w ((i + 1) * h)
 unfolding Holds mixed_block
-tile-more {l} l₀ t s x y m src stride from at w h r e holds stored i =
+tile-more {l} l₀ t s x y m src stride from at w h i e holds stored inside =
+    let r = i * h in
     let v = mixed_block m src stride from in
     let on : (k : ℕ) → from + r * stride + k * stride ≡ from + (r + k) * stride = λ k. omega (arith, add-mul r k stride) in
+    let next : r + h ≡ (i + 1) * h = omega (arith, add-mul i 1 h) in
     stored
     ∙ painted-values s x (y + r) w h (tiled t at w) (λ k. v (r + k)) l (λ k c lk lc. holds k c lk lc ∙ ap (λ (j : ℕ). mixed_row m src j c) (on k))
-    ∙ sym (rows-painted 0 l (λ k. v (r + k)) i)
+    ∙ sym (rows-painted 0 l (λ k. v (r + k)) inside)
     ∙ ap (λ (k : List ℕ). rows k s x (y + r) (λ j. v (r + j)) w h) e
     ∙ rows_on l₀ s x y v w r h
+    ∙ ap (λ n. rows l₀ s x y v w n) next
