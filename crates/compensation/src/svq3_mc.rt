@@ -142,14 +142,7 @@ pub fn compensate_into(
     compensate_taps(dst, plane, b, size, t);
 }
 
-#[derive(Clone, Copy)]
-pub enum BlockAnswer {
-    // the output holds the block
-    Done,
-    Refused(Refusal),
-}
-
-// The compensated block alone: 2 for the plane, 5 for the spans or the output's length; else `out` is the block.
+// The compensated block alone: `StateLength` for the plane, `CallRange` for the spans or the output's length; else `out` is the block.
 pub fn motion_compensate_block(
     out: &mut [u8],
     plane: &[u8],
@@ -161,26 +154,26 @@ pub fn motion_compensate_block(
     h: usize,
     vx: i32,
     vy: i32,
-) -> BlockAnswer
+) -> Result<(), Refusal>
     ensures value { result ≡ block_answer (length plane.now) width height w h (length out.old) }
     ensures out_after { out.new ≡ block_out out.old plane.now width height x y w h vx vy }
 {
-    if sides_fit(65536, width, height, plane.len()) {
-        if sides_fit(16, w, h, out.len()) {
-            let whole = Block {
-                stride: w,
-                x: 0,
-                y: 0,
-                w,
-                h,
-            };
-            let size = Size { width, height };
-            compensate_into(out, plane, whole, size, x, y, vx, vy);
-            return BlockAnswer::Done;
-        }
-        return BlockAnswer::Refused(Refusal::CallRange);
+    if !sides_fit(65536, width, height, plane.len()) {
+        return Err(Refusal::StateLength);
     }
-    BlockAnswer::Refused(Refusal::StateLength)
+    if !sides_fit(16, w, h, out.len()) {
+        return Err(Refusal::CallRange);
+    }
+    let whole = Block {
+        stride: w,
+        x: 0,
+        y: 0,
+        w,
+        h,
+    };
+    let size = Size { width, height };
+    compensate_into(out, plane, whole, size, x, y, vx, vy);
+    Ok(())
 }
 
 // The chroma block of a luma block: place, spans and vector halved toward zero.
@@ -195,7 +188,7 @@ pub fn motion_compensate_chroma_block(
     h: usize,
     vx: i32,
     vy: i32,
-) -> BlockAnswer
+) -> Result<(), Refusal>
     ensures value { result ≡ block_answer (length plane.now) width height (w / 2) (h / 2) (length out.old) }
     ensures out_after { out.new ≡ block_out out.old plane.now width height (halved x) (halved y) (w / 2) (h / 2) (halved vx) (halved vy) }
 {
