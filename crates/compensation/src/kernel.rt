@@ -62,14 +62,12 @@ fn mix_row(dst: &mut [u8], src: &[u8], to: usize, from: usize, n: usize, mix: Mi
     requires { SumsTo12 mix × (to + n ≤ length dst.old) × (from + n + (mix.beside + mix.second) ≤ length src.now) }
     ensures { dst.new ≡ row dst.old to (mixed_row mix src.now from) n }
 {
-    let mut c = 0;
-    while c < n {
+    for c in 0..n {
         let i = from + c;
         let beside = src[i + mix.beside];
         let second = src[i + mix.second];
         let last = src[i + (mix.beside + mix.second)];
         dst[to + c] = mix_taps(mix, src[i], beside, second, last);
-        c += 1;
     }
 }
 
@@ -79,11 +77,9 @@ pub fn mix_block(dst: &mut [u8], src: &[u8], b: Block, stride: usize, from: usiz
     requires block_in { BlockIn b (length dst.old) × (from + b.h * stride + b.w < length src.now) }
     ensures { dst.new ≡ block_painted b (mixed_block mix src.now stride from) dst.old }
 {
-    let mut r = 0;
-    while r < b.h {
+    for r in 0..b.h {
         let to = (b.y + r) * b.stride + b.x;
         mix_row(dst, src, to, from + r * stride, b.w, mix);
-        r += 1;
     }
 }
 
@@ -148,12 +144,7 @@ pub fn mix_of(px: u32, py: u32, below: usize) -> Mix
 pub fn extra_of(px: u32, py: u32) -> usize
     ensures { (result ≡ extra px py) × (result ≤ 1) }
 {
-    if px == 0 {
-        if py == 0 {
-            return 0;
-        }
-    }
-    1
+    if px == 0 && py == 0 { 0 } else { 1 }
 }
 
 // Whole samples: rows that are copied. The width is a number of its own, so that it can be a literal.
@@ -162,11 +153,9 @@ fn copy_rows(dst: &mut [u8], src: &[u8], b: Block, w: usize, stride: usize, from
     requires span { Span b.w b.h × BlockIn b (length dst.old) × (from + (b.h - 1) * stride + b.w ≤ length src.now) }
     ensures { dst.new ≡ block_painted b (four_block (formula 0 0) src.now stride from) dst.old }
 {
-    let mut r = 0;
-    while r < b.h {
+    for r in 0..b.h {
         let to = (b.y + r) * b.stride + b.x;
         store_row(dst, to, src, from + r * stride, w);
-        r += 1;
     }
 }
 
@@ -175,15 +164,11 @@ pub fn copy_by_width(dst: &mut [u8], src: &[u8], b: Block, stride: usize, from: 
     requires { Span b.w b.h × BlockIn b (length dst.old) × (from + (b.h - 1) * stride + b.w ≤ length src.now) }
     ensures { dst.new ≡ block_painted b (four_block (formula 0 0) src.now stride from) dst.old }
 {
-    if b.w == 16 {
-        copy_rows(dst, src, b, 16, stride, from);
-    } else if b.w == 8 {
-        copy_rows(dst, src, b, 8, stride, from);
-    } else if b.w == 4 {
-        copy_rows(dst, src, b, 4, stride, from);
-    } else if b.w == 2 {
-        copy_rows(dst, src, b, 2, stride, from);
-    } else {
-        copy_rows(dst, src, b, b.w, stride, from);
+    match b.w {
+        16 => copy_rows(dst, src, b, 16, stride, from),
+        8 => copy_rows(dst, src, b, 8, stride, from),
+        4 => copy_rows(dst, src, b, 4, stride, from),
+        2 => copy_rows(dst, src, b, 2, stride, from),
+        w => copy_rows(dst, src, b, w, stride, from),
     }
 }

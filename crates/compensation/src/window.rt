@@ -22,11 +22,7 @@ fn near_of(n: usize, i: usize) -> usize
     requires { 0 < n }
     ensures { (result ≡ near n i) × (result < n) }
 {
-    if i < 17 {
-        return 0;
-    }
-    let k = i - 17;
-    if k < n { k } else { n - 1 }
+    i.saturating_sub(17).min(n - 1)
 }
 
 // The columns of the taps of a row: they are the same in every row of a block.
@@ -35,10 +31,8 @@ fn columns_of(width: usize, bx: usize) -> [usize; 17]
     ensures { result ≡ row (replicate 17 0) 0 (near_from width bx) 17 }
 {
     let mut t = [0usize; 17];
-    let mut c = 0;
-    while c < 17 {
+    for c in 0..17 {
         t[c] = near_of(width, bx + c);
-        c += 1;
     }
     t
 }
@@ -47,10 +41,8 @@ fn gather_row(window: &mut [u8], plane: &[u8], columns: &[usize; 17], at: usize,
     requires { (at + 17 ≤ length window.old) × ((k : ℕ) → k < 17 → line + get_or columns.now k 0 < length plane.now) }
     ensures { window.new ≡ row window.old at (picked plane.now line columns.now) 17 }
 {
-    let mut c = 0;
-    while c < 17 {
-        window[at + c] = plane[line + columns[c]];
-        c += 1;
+    for (c, column) in columns.iter().enumerate() {
+        window[at + c] = plane[line + *column];
     }
 }
 
@@ -67,11 +59,9 @@ fn gather_each(
     requires whole { Whole size.width size.height (length plane.now) × (by ≤ size.height + 16) × ((k : ℕ) → k < 17 → get_or columns.now k 0 < size.width) }
     ensures { Wide window.new 0 h (picked_at plane.now columns.now size.width size.height by) }
 {
-    let mut r = 0;
-    while r < h {
+    for r in 0..h {
         let line = near_of(size.height, by + r) * size.width;
         gather_row(window, plane, columns, r * 34, line);
-        r += 1;
     }
 }
 
@@ -79,10 +69,8 @@ fn fill_run(window: &mut [u8], at: usize, sample: u8)
     requires { at + 17 ≤ length window.old }
     ensures { window.new ≡ row window.old at (λ k. sample) 17 }
 {
-    let mut c = 0;
-    while c < 17 {
+    for c in 0..17 {
         window[at + c] = sample;
-        c += 1;
     }
 }
 
@@ -101,11 +89,9 @@ fn gather_between(window: &mut [u8], plane: &[u8], size: Size, by: usize, h: usi
     requires whole { Whole size.width size.height (length plane.now) × (by ≤ size.height + 16) × (from + 17 ≤ size.width) }
     ensures { Wide window.new 0 h (run_at plane.now size.width size.height by from) }
 {
-    let mut r = 0;
-    while r < h {
+    for r in 0..h {
         let line = near_of(size.height, by + r) * size.width;
         copy_run(window, r * 34, plane, line + from);
-        r += 1;
     }
 }
 
@@ -125,13 +111,11 @@ fn gather_beside(
     ensures wide { Wide window.new to h (run_at plane.now size.width size.height by from) }
     ensures wide_2 { Wide window.new (17 - to) h (edge_at plane.now size.width size.height by edge) }
 {
-    let mut r = 0;
-    while r < h {
+    for r in 0..h {
         let line = near_of(size.height, by + r) * size.width;
         let sample = plane[line + edge];
         copy_run(window, r * 34 + to, plane, line + from);
         fill_run(window, r * 34 + (17 - to), sample);
-        r += 1;
     }
 }
 

@@ -15,7 +15,7 @@ lies c = (inside-row c.requires.block_in.0 c.loop-r-test.true, more c.args.strid
 
 pub loop-r-init : goal.loop-r-init
 unfolding rows
-loop-r-init c = (omega arith, refl, refl)
+loop-r-init c = (refl, refl)
 
 pub mix_row-requires : goal.mix_row-requires
 mix_row-requires c = (c.requires.from_square.weights, omega (arith, lies (goal.at.mix_row-requires c).In-loop-r), omega (arith, lies (goal.at.mix_row-requires c).In-loop-r))
@@ -25,9 +25,9 @@ unfolding mixed_block
 loop-r-preserved c =
     let a = c.args in
     let l = c.loop-r in
-    (omega arith, omega (arith, c.mix_row.auto.dst), rows_more a.dst.now a.b.stride a.b.x a.b.y (mixed_block a.mix a.src.now a.stride a.from) a.b.w l.r l.invariant.2 c.mix_row.ensures)
+    (omega (arith, c.mix_row.auto.dst), rows_more a.dst.now a.b.stride a.b.x a.b.y (mixed_block a.mix a.src.now a.stride a.from) a.b.w l.r l.invariant.1 c.mix_row.ensures)
 
 pub returns : goal.returns
 returns c =
     let e : c.loop-r.r ≡ c.args.b.h = omega arith in
-    c.loop-r.invariant.2 ∙ rw e (rows-painted 0 _ _ c.requires.block_in.0)
+    c.loop-r.invariant.1 ∙ rw e (rows-painted 0 _ _ c.requires.block_in.0)

@@ -9,16 +9,16 @@ use Rattle.compensation.proofs.kernel.mix_row.Goals as goal
 
 pub loop-c-init : goal.loop-c-init
 unfolding row
-loop-c-init c = (omega arith, refl, refl)
+loop-c-init c = (refl, refl)
 
 pub loop-c-preserved : goal.loop-c-preserved
 unfolding mixed_row mixed_at
 loop-c-preserved c =
     let a = c.args in
     let l = c.loop-c in
-    (omega arith, simp length-set (omega arith), row_more a.dst.now a.to (mixed_row a.mix a.src.now a.from) l.c l.invariant.2 c.mix_taps.ensures)
+    (simp length-set (omega arith), row_more a.dst.now a.to (mixed_row a.mix a.src.now a.from) l.c l.invariant.1 c.mix_taps.ensures)
 
 pub returns : goal.returns
 returns c =
     let e : c.loop-c.c ≡ c.args.n = omega arith in
-    rw (← e) c.loop-c.invariant.2
+    rw (← e) c.loop-c.invariant.1

@@ -8,15 +8,15 @@ use Rattle.compensation.proofs.window.fill_run.Goals as goal
 
 pub loop-c-init : goal.loop-c-init
 unfolding row
-loop-c-init c = (omega arith, refl, refl)
+loop-c-init c = (refl, refl)
 
 pub loop-c-preserved : goal.loop-c-preserved
 loop-c-preserved c =
     let a = c.args in
     let l = c.loop-c in
-    (omega arith, simp length-set (omega arith), row_more a.window.now a.at (λ k. a.sample) l.c l.invariant.2 refl)
+    (simp length-set (omega arith), row_more a.window.now a.at (λ k. a.sample) l.c l.invariant.1 refl)
 
 pub returns : goal.returns
 returns c =
     let e : c.loop-c.c ≡ 17 = omega arith in
-    rw (← e) c.loop-c.invariant.2
+    rw (← e) c.loop-c.invariant.1

@@ -10,7 +10,7 @@ use Rattle.compensation.proofs.Wide.{wide-none, wide-more, wide-kept, wide-here,
 use Rattle.compensation.proofs.window.gather_beside.Goals as goal
 
 pub loop-r-init : goal.loop-r-init
-loop-r-init c = (omega arith, refl, wide-none _ _ _, wide-none _ _ _)
+loop-r-init c = (refl, wide-none _ _ _, wide-none _ _ _)
 
 -- the line ends within the plane
 pub copy_run-requires : goal.copy_run-requires
@@ -31,20 +31,19 @@ loop-r-preserved c =
     let w : ℕ → ℕ = λ k. get_or a.plane.now (c.near_of.result * a.size.width + a.edge) 0 in
     let e = copied.ensures in
     let f = filled.ensures in (
-      omega arith,
       omega (arith, copied.auto.window, filled.auto.window),
       wide-more
-          (wide-kept copied.new.window rest w f (omega arith) (omega arith) (wide-kept l.window at u e (omega arith) (omega arith) l.invariant.2))
+          (wide-kept copied.new.window rest w f (omega arith) (omega arith) (wide-kept l.window at u e (omega arith) (omega arith) l.invariant.1))
           (λ k lk.
           wide-there copied.new.window rest w f (a.to + l.r * 34 + k) (λ j lj q. omega arith)
           ∙ wide-here l.window at u e a.to l.r k refl (omega arith) lk
           ∙ (λ i. run a.plane.now (line i * a.size.width + a.from) k)),
       wide-more
-          (wide-kept copied.new.window rest w f (omega arith) (omega arith) (wide-kept l.window at u e (omega arith) (omega arith) l.invariant.3))
+          (wide-kept copied.new.window rest w f (omega arith) (omega arith) (wide-kept l.window at u e (omega arith) (omega arith) l.invariant.2))
           (λ k lk. wide-here copied.new.window rest w f (17 - a.to) l.r k refl (omega (arith, copied.auto.window)) lk ∙ (λ i. get_or a.plane.now (line i * a.size.width + a.edge) 0)),
     )
 
 pub returns : goal.returns
 returns c =
     let e : c.loop-r.r ≡ c.args.h = omega arith in
-    record { wide = rw (← e) c.loop-r.invariant.2; wide_2 = rw (← e) c.loop-r.invariant.3 }
+    record { wide = rw (← e) c.loop-r.invariant.1; wide_2 = rw (← e) c.loop-r.invariant.2 }

@@ -9,7 +9,7 @@ use Rattle.compensation.proofs.Wide.{wide-none, wide-more, wide-kept, wide-here}
 use Rattle.compensation.proofs.window.gather_between.Goals as goal
 
 pub loop-r-init : goal.loop-r-init
-loop-r-init c = (omega arith, refl, wide-none _ 0 _)
+loop-r-init c = (refl, wide-none _ 0 _)
 
 pub copy_run-requires : goal.copy_run-requires
 copy_run-requires c =
@@ -24,14 +24,13 @@ loop-r-preserved c =
     let at = l.r * 34 in
     let u = run a.plane.now (c.near_of.result * a.size.width + a.from) in
     let e = c.copy_run.ensures in (
-      omega arith,
       omega (arith, c.copy_run.auto.window),
       wide-more
-          (wide-kept l.window at u e (omega arith) (omega arith) l.invariant.2)
+          (wide-kept l.window at u e (omega arith) (omega arith) l.invariant.1)
           (λ k lk. wide-here l.window at u e 0 l.r k (omega arith) (omega arith) lk ∙ (λ i. run a.plane.now (line i * a.size.width + a.from) k)),
     )
 
 pub returns : goal.returns
 returns c =
     let e : c.loop-r.r ≡ c.args.h = omega arith in
-    rw (← e) c.loop-r.invariant.2
+    rw (← e) c.loop-r.invariant.1

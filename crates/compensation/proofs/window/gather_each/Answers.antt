@@ -8,7 +8,7 @@ use Rattle.compensation.proofs.Wide.{wide-none, wide-more, wide-kept, wide-here}
 use Rattle.compensation.proofs.window.gather_each.Goals as goal
 
 pub loop-r-init : goal.loop-r-init
-loop-r-init c = (omega arith, refl, wide-none _ 0 _)
+loop-r-init c = (refl, wide-none _ 0 _)
 
 pub gather_row-requires : goal.gather_row-requires
 gather_row-requires c =
@@ -22,14 +22,13 @@ loop-r-preserved c =
     let near = c.near_of in
     let u = picked a.plane.now (near.result * a.size.width) a.columns.now in
     let e = c.gather_row.ensures in (
-      omega arith,
       omega (arith, c.gather_row.auto.window),
       wide-more
-          (wide-kept l.window (l.r * 34) u e (omega arith) (omega arith) l.invariant.2)
+          (wide-kept l.window (l.r * 34) u e (omega arith) (omega arith) l.invariant.1)
           (λ k lk. wide-here l.window (l.r * 34) u e 0 l.r k (omega arith) (omega arith) lk ∙ (λ i. picked a.plane.now (near.ensures.0 i * a.size.width) a.columns.now k)),
     )
 
 pub returns : goal.returns
 returns c =
     let e : c.loop-r.r ≡ c.args.h = omega arith in
-    rw (← e) c.loop-r.invariant.2
+    rw (← e) c.loop-r.invariant.1

@@ -9,7 +9,7 @@ use Rattle.compensation.proofs.window.gather_row.Goals as goal
 
 pub loop-c-init : goal.loop-c-init
 unfolding row
-loop-c-init c = (omega arith, refl, refl)
+loop-c-init c = (refl, refl)
 
 pub overflow_add-window : goal.overflow_add-window
 overflow_add-window c = omega (arith, c.requires.1 c.loop-c.c (omega arith))
@@ -22,9 +22,9 @@ unfolding picked
 loop-c-preserved c =
     let a = c.args in
     let l = c.loop-c in
-    (omega arith, simp length-set (omega arith), row_more a.window.now a.at (picked a.plane.now a.line a.columns.now) l.c l.invariant.2 refl)
+    (simp length-set (omega arith), row_more a.window.now a.at (picked a.plane.now a.line a.columns.now) l.c l.invariant.1 refl)
 
 pub returns : goal.returns
 returns c =
     let e : c.loop-c.c ≡ 17 = omega arith in
-    rw (← e) c.loop-c.invariant.2
+    rw (← e) c.loop-c.invariant.1
