@@ -14,6 +14,8 @@ use lib.ListN.{length, get_or, replicate}
 use Rattle.picture.specs.Painted.{painted}
 use Rattle.picture.specs.InnerRows.{row}
 use Rattle.picture.proofs.Laws.{more, row_same, painted-values, both_true}
+use Rattle.std.specs.Int.{int_max, int_min}
+use Rattle.std.proofs.lemmas.Int.{int_max_is, int_min_is}
 use Rattle.ints.specs.Z.{when◌then◌else◌, clamp_z, floor_z, mod_z}
 use mir.Syntax.{w64}
 use mir.Facts.{to_z-of_z}
@@ -57,6 +59,16 @@ module _ (n : ℕ) where
       (λ e. omega (arith, z-rules))
       (λ e f. absurd (omega (arith, z-rules)))
       (λ e f. omega (arith, z-rules, abs-z (negsuc a +ℤ pos 17), add-z (negsuc a) (pos 17), mag-z (negsuc a +ℤ pos 17)))
+
+  -- held by the library's methods
+  pub held-std : (z : ℤ) → int_max (negsuc 16) (int_min z (pos (n - 1))) ≡ clamp_z (negsuc 16) (pos (n - 1)) z
+  held-std z =
+      let lo = negsuc 16 in
+      let hi = pos (n - 1) in
+      clamp-ind (λ v. int_max lo (int_min z hi) ≡ v) lo hi z
+      (λ e. omega (arith, z-rules, int_max_is lo (int_min z hi), int_min_is z hi))
+      (λ e f. omega (arith, z-rules, int_max_is lo (int_min z hi), int_min_is z hi))
+      (λ e f. omega (arith, z-rules, int_max_is lo (int_min z hi), int_min_is z hi))
 
   -- it is never below 0
   pub origin-back : (z : ℤ) → clamp_z (negsuc 16) (pos (n - 1)) z +ℤ pos 17 ≡ pos (origin_of n z)

@@ -1,6 +1,5 @@
 // The sample loops, row by row. The phase is chosen outside them, and every tap lies in the source: no branch and no clamp inside.
 ghost use Rattle.std.specs.Prelude.{◌≡◌, ◌+◌, ◌*◌, ◌-◌, ◌<◌, ◌≤◌, length, get_or};
-ghost use Rattle.ints.specs.Z.{when◌then◌else◌};
 ghost use Rattle.picture.specs.InnerBlock.{BlockIn, block_painted};
 ghost use Rattle.picture.specs.InnerRows.{row};
 ghost use Rattle.compensation.specs.Formula.{formula};
@@ -114,13 +113,6 @@ fn mix_code(px: u32, py: u32) -> u32
     ((mixes_of(way_of(py)) >> shift) % 65536) as u32
 }
 
-// A choice that needs no branch.
-fn pick(t: bool, a: usize, b: usize) -> usize
-    ensures { result ≡ (when t then a else b) }
-{
-    if t { a } else { b }
-}
-
 // The mix of two phases, for a source whose rows are `below` samples long. Halfway down, a pair is a tap and the one below it; else it is two
 // taps of a row.
 pub fn mix_of(px: u32, py: u32, below: usize) -> Mix
@@ -128,10 +120,10 @@ pub fn mix_of(px: u32, py: u32, below: usize) -> Mix
     ensures { MixFor px py below result }
 {
     let code = mix_code(px, py);
-    let down = py == 3;
+    let (beside, second) = if py == 3 { (below, 1) } else { (1, below) };
     Mix {
-        beside: pick(down, below, 1),
-        second: pick(down, 1, below),
+        beside,
+        second,
         means: (code / 32768) as u8,
         wa: (code % 16) as u16,
         wb: (code / 16 % 16) as u16,

@@ -10,7 +10,6 @@ ghost use Rattle.compensation.specs.Block.{block_answer, block_out, halved};
 use crate::kernel::extra_of;
 use crate::tiles::{interpolate, interpolate_pair};
 use crate::window::{gather, origin};
-use ints::half_toward_zero;
 use picture::{Block, Size};
 use refusal::Refusal;
 use state::sides_fit;
@@ -21,15 +20,13 @@ pub struct MvComponentSplit {
     pub phase: u32,
 }
 
-// Rounded down by one unsigned division: 6 · 357,913,942 is more than any vector is below 0.
+// Rounded down.
 pub fn split_mv_component(v: i32) -> MvComponentSplit
     ensures { (result.whole ≡ floor_z v 6) × (result.phase ≡ mod_z v 6) }
 {
-    let u = ((v as i64) + 2_147_483_652) as u64;
-    let q = u / 6;
     MvComponentSplit {
-        whole: (q as i64) - 357_913_942,
-        phase: (u - 6 * q) as u32,
+        whole: i64::from(v.div_euclid(6)),
+        phase: v.rem_euclid(6).cast_unsigned(),
     }
 }
 
@@ -192,9 +189,16 @@ pub fn motion_compensate_chroma_block(
     ensures value { result ≡ block_answer (length plane.now) width height (w / 2) (h / 2) (length out.old) }
     ensures out_after { out.new ≡ block_out out.old plane.now width height (halved x) (halved y) (w / 2) (h / 2) (halved vx) (halved vy) }
 {
-    let hx = half_toward_zero(x);
-    let hy = half_toward_zero(y);
-    let hvx = half_toward_zero(vx);
-    let hvy = half_toward_zero(vy);
-    motion_compensate_block(out, plane, width, height, hx, hy, w / 2, h / 2, hvx, hvy)
+    motion_compensate_block(
+        out,
+        plane,
+        width,
+        height,
+        x / 2,
+        y / 2,
+        w / 2,
+        h / 2,
+        vx / 2,
+        vy / 2,
+    )
 }

@@ -4,7 +4,6 @@ ghost use Rattle.picture.specs.InnerRows.{row, run};
 ghost use Rattle.compensation.specs.InnerKernel.{origin_of, near, near_from, picked, picked_at, window_at, Wide, run_at, edge_at};
 ghost use Rattle.compensation.specs.InnerBlock.{Whole};
 
-use ints::clamp_i64;
 use picture::Size;
 use picture::rows::store_row;
 
@@ -14,8 +13,8 @@ pub fn origin(first: i64, n: usize) -> usize
     ensures { result ≡ origin_of n first }
 {
     let last = (n - 1) as i64;
-    let o = clamp_i64(first, -17, last);
-    (o + 17) as usize
+    let held = first.clamp(-17, last);
+    (held + 17) as usize
 }
 
 fn near_of(n: usize, i: usize) -> usize
