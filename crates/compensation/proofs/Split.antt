@@ -1,25 +1,46 @@
--- A vector's whole samples and its phase; and a block's place moved by the whole samples.
+-- A vector raised by a multiple of six, so that it is not below 0: its quotient and remainder are those of rounding down. And a block's place moved by the quotient.
 -- Assumes nothing.
-use mathlib.Core.Path.{◌≡◌, refl, ap}
-use Prim.Native.Nat.{suc, ◌-◌, ◌%◌}
+use mathlib.Core.Path.{◌≡◌, sym, ap, ◌∙◌}
+use Prim.Native.Nat.{ℕ, ◌*◌, ◌/◌, ◌%◌, ◌≤◌, ◌<◌}
 use native.Mathlib.Omega.{arith}
-use lib.IntN.{ℤ, pos, negsuc, ◌+ℤ◌}
+use lib.Dec.{T}
+use lib.IntN.{ℤ, pos, nat_abs, ◌+ℤ◌, ◌-ℤ◌, +ℤ_comm}
+use lib.Signed.{non_neg, pos-nat_abs}
 use mir.Syntax.{w32, w64}
-use mir.Val.{SFits}
-use Rattle.std.specs.Int.{int_div_euclid, int_rem_euclid}
+use mir.Val.{SFits, Fits, to_z}
+use mir.Facts.{to_z-of_z, to_z_pos}
 use Rattle.ints.specs.Z.{floor_z, mod_z}
-use Rattle.ints.proofs.Fits.{read, signed}
+use Rattle.ints.proofs.Linear.{z-rules, add-z, diff-z, mag-z}
+use Rattle.ints.proofs.Laws.{floor-shift}
+use Rattle.ints.proofs.Fits.{read, signed, cast_unsigned}
 use Rattle.ints.proofs.Same.{reads}
 
-pub floor-euclid : (z : ℤ) → int_div_euclid z (pos 6) ≡ floor_z z 6
-unfolding floor_z
-floor-euclid (pos a) = refl
-floor-euclid (negsuc a) = refl
+-- z, which fits 64 bits, is the vector v raised by six times k; n is z as the machine casts it
+module _ {v z : ℤ} (k : ℕ) (enough : 2147483648 ≤ 6 * k) (small : SFits w32 v) (fits : SFits w64 z) (is : z ≡ v +ℤ pos (6 * k)) where
+  abbrev n : ℕ
+  n = nat_abs (read w64 z)
 
-pub mod-euclid : (z : ℤ) → int_rem_euclid z (pos 6) ≡ pos (mod_z z 6)
-unfolding mod_z
-mod-euclid (pos a) = refl
-mod-euclid (negsuc a) = let e : 6 - 1 - a % 6 ≡ 6 - suc (a % 6) = omega arith in ap pos e
+  raised : pos n ≡ pos (6 * k) +ℤ v
+  raised =
+      let e : read w64 z ≡ pos (6 * k) +ℤ v = to_z-of_z fits ∙ is ∙ +ℤ_comm v (pos (6 * k)) in
+      pos-nat_abs (read w64 z) (omega (arith, z-rules, e, add-z (pos (6 * k)) v, mag-z v, small.sfits, mag-z (read w64 z))) ∙ e
+
+  pub raised-small : n < 9223372036854775808
+  raised-small = omega (arith, z-rules, is ∙ +ℤ_comm v (pos (6 * k)) ∙ sym raised, mag-z z, fits.sfits)
+
+  pub raised-cast : T (non_neg (read w64 z)) × Fits w64 n
+  raised-cast = cast_unsigned w64 (to_z-of_z fits ∙ is ∙ +ℤ_comm v (pos (6 * k)) ∙ sym raised) (omega (arith, raised-small))
+
+  pub raised-whole : to_z w64 (n / 6) -ℤ pos k ≡ floor_z v 6
+  unfolding floor_z
+  raised-whole =
+      let p : to_z w64 (n / 6) ≡ pos (n / 6) = to_z_pos w64 (omega (arith, raised-small)) in
+      let e : pos (n / 6) ≡ pos k +ℤ floor_z v 6 = ap (λ x. floor_z x 6) raised ∙ (floor-shift 6 (pos k) v (omega arith)).0 in
+      ap (λ x. x -ℤ pos k) p ∙ omega (arith, z-rules, e, add-z (pos k) (floor_z v 6), diff-z (pos (n / 6)) (pos k))
+
+  pub raised-phase : n % 6 ≡ mod_z v 6
+  unfolding mod_z
+  raised-phase = ap (λ x. mod_z x 6) raised ∙ (floor-shift 6 (pos k) v (omega arith)).1
 
 -- two numbers of 32 bits, added in 64
 module _ (x z : ℤ) (p : SFits w32 x) (q : SFits w32 z) where

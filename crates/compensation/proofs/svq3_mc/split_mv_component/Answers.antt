@@ -1,18 +1,39 @@
--- `compensation::svq3_mc::split_mv_component` meets its contract: the Euclidean quotient and remainder by 6 are those of rounding down.
-use mathlib.Core.Path.{ap, ◌∙◌}
-use lib.IntN.{ℤ, pos}
-use mir.Syntax.{w32, w64}
-use mir.Val.{of_z}
-use mir.Facts.{to_z-of_z}
-use Rattle.std.specs.Int.{int_div_euclid, int_rem_euclid}
-use Rattle.ints.proofs.Fits.{back}
-use Rattle.compensation.proofs.Split.{floor-euclid, mod-euclid}
+-- `compensation::svq3_mc::split_mv_component` meets its contract: what the machine divides is the vector, raised by 6 · 357,913,942.
+use mathlib.Core.Path.{sym, subst}
+use native.Mathlib.Omega.{arith}
+use lib.Dec.{lit≤}
+use mir.Syntax.{w64}
+use mir.Val.{SFits}
+use Rattle.ints.proofs.Fits.{signed, back}
+use Rattle.ints.proofs.Same.{reads}
+use Rattle.ints.proofs.Laws.{floor-fits}
+use Rattle.compensation.proofs.Split.{raised-small, raised-cast, raised-whole, raised-phase}
 use Rattle.compensation.proofs.svq3_mc.split_mv_component.Goals as goal
+
+pub overflow_add-u : goal.overflow_add-u
+overflow_add-u c = search signed depth 20
+
+pub overflow_cast-u-2 : goal.overflow_cast-u-2
+overflow_cast-u-2 c =
+    let record { v = v } = c.ranges in
+    raised-cast 357913942 (lit≤ tt) v (overflow_add-u c) (search reads depth 20)
+
+pub overflow_cast-result : goal.overflow_cast-result
+overflow_cast-result c =
+    let record { v = v } = c.ranges in
+    record { sfits = omega (arith, raised-small 357913942 (lit≤ tt) v (overflow_add-u c) (search reads depth 20)) }
+
+pub overflow_sub-result : goal.overflow_sub-result
+overflow_sub-result c =
+    let record { v = v } = c.ranges in
+    subst (SFits w64) (sym (raised-whole 357913942 (lit≤ tt) v (overflow_add-u c) (search reads depth 20))) (record { sfits = omega (arith, floor-fits 6 v) })
 
 pub returns : goal.returns
 returns c =
-    let v = c.args.v in
-    let same = to_z-of_z c.ranges.v in (
-      back w64 c.from.type_inv (c.from.ensures ∙ back w32 c.div_euclid.type_inv (c.div_euclid.ensures ∙ ap (λ (z : ℤ). int_div_euclid z (pos 6)) same ∙ floor-euclid v)),
-      c.cast_unsigned.ensures ∙ ap (of_z w32) (back w32 c.rem_euclid.type_inv (c.rem_euclid.ensures.value ∙ ap (λ (z : ℤ). int_rem_euclid z (pos 6)) same ∙ mod-euclid v)),
+    let record { v = v } = c.ranges in (
+      back w64 (overflow_sub-result c).sfits (raised-whole 357913942 (lit≤ tt) v (overflow_add-u c) (search reads depth 20)),
+      raised-phase 357913942 (lit≤ tt) v (overflow_add-u c) (search reads depth 20),
     )
+
+pub overflow_cast-u : goal.overflow_cast-u
+overflow_cast-u c = search signed depth 20
