@@ -13,7 +13,7 @@ use Rattle.picture.specs.InnerRows.{row, rows}
 use Rattle.picture.proofs.Laws.{more, row_same, row_other, row_more, rows-painted, painted-values}
 use Rattle.compensation.specs.InnerKernel.{mixed_taps, mixed_at, mixed_row, mixed_block}
 use Rattle.compensation.specs.InnerLanes.{Tile, lane_of, lane_at, tiled, taken_at, Holds, mixed_lane}
-use Rattle.compensation.specs.declared.kernel.Mix.{Mix}
+use Rattle.compensation.specs.declared.mix.Mix.{Mix}
 
 -- ---- sixteen lanes have room for two tiles of eight
 pub roomier : {w h : ℕ} → Tile w h 8 → Tile w h 16
@@ -91,16 +91,16 @@ kept t at w h n v f e apart holds r c lr lc =
     rw e (row_other t at v n (0 + (r * w + c)) 0 (λ k lk. let m = tile-lane w h r c lr lc in omega arith) ∙ holds r c lr lc)
 
 -- ---- lanes that were mixed
-module _ (m : Mix) (src : List ℕ) (stride from at w h : ℕ) (room : at + w * h ≤ 16) where
+module _ (m : Mix) (src : List ℕ) (from at w h : ℕ) (room : at + w * h ≤ 16) where
   pub mixed-tile : {t : List ℕ} (a b c d : List ℕ) → t ≡ row (replicate 16 0) 0 (mixed_lane m a b c d) 16
-      → Holds a at w h (taken_at src stride from) → Holds b at w h (taken_at src stride (from + m.beside))
-      → Holds c at w h (taken_at src stride (from + m.second)) → Holds d at w h (taken_at src stride (from + (m.beside + m.second)))
-      → Holds t at w h (mixed_block m src stride from)
+      → Holds a at w h (taken_at src m.stride from) → Holds b at w h (taken_at src m.stride (from + m.beside))
+      → Holds c at w h (taken_at src m.stride (from + m.second)) → Holds d at w h (taken_at src m.stride (from + (m.beside + m.second)))
+      → Holds t at w h (mixed_block m src from)
   unfolding Holds tiled taken_at mixed_block mixed_row mixed_at mixed_lane
   mixed-tile {t} a b c d e ha hb hc hd r k lr lk =
       let i = at + (r * w + k) in
       let lane : get_or t i 0 ≡ mixed_lane m a b c d i = rw e (rw zero-add at (row_same (replicate 16 0) 0 (mixed_lane m a b c d) 16 i 0 (omega (arith, tile-lane w h r k lr lk)) (omega arith))) in
-      let on : (n : ℕ) → get_or src (from + n + r * stride + k) 0 ≡ get_or src (from + r * stride + k + n) 0 = λ n. let q : from + n + r * stride + k ≡ from + r * stride + k + n = omega arith in ap (λ j. get_or src j 0) q in
+      let on : (n : ℕ) → get_or src (from + n + r * m.stride + k) 0 ≡ get_or src (from + r * m.stride + k + n) 0 = λ n. let q : from + n + r * m.stride + k ≡ from + r * m.stride + k + n = omega arith in ap (λ j. get_or src j 0) q in
       let pa = ha r k lr lk in
       let pb = hb r k lr lk ∙ on m.beside in
       let pc = hc r k lr lk ∙ on m.second in
@@ -130,15 +130,15 @@ rows_on l s x y v w r zero = rw (add-zero r)
 rows_on l s x y v w r (suc t) = rw (add-suc r t) (rw (add_assoc y r t) (ap (λ (m : List ℕ). row m ((y + (r + t)) * s + x) (v (r + t)) w) (rows_on l s x y v w r t)))
 
 -- a turn of a loop that stores a tile
-pub tile-more : {l l' : List ℕ} (l₀ t : List ℕ) (s x y : ℕ) (m : Mix) (src : List ℕ) (stride from at w h i : ℕ)
-    → l ≡ rows l₀ s x y (mixed_block m src stride from) w (i * h) → Holds t at w h (mixed_block m src stride (from + i * h * stride))
+pub tile-more : {l l' : List ℕ} (l₀ t : List ℕ) (s x y : ℕ) (m : Mix) (src : List ℕ) (from at w h i : ℕ)
+    → l ≡ rows l₀ s x y (mixed_block m src from) w (i * h) → Holds t at w h (mixed_block m src (from + i * h * m.stride))
     → l' ≡ painted s x (y + i * h) w h (tiled t at w) l → Inside s x (y + i * h) w h (length l)
-    → l' ≡ rows l₀ s x y (mixed_block m src stride from) w ((i + 1) * h)
+    → l' ≡ rows l₀ s x y (mixed_block m src from) w ((i + 1) * h)
 unfolding Holds mixed_block
-tile-more {l} l₀ t s x y m src stride from at w h i e holds stored inside =
+tile-more {l} l₀ t s x y m src from at w h i e holds stored inside =
     let r = i * h in
-    let v = mixed_block m src stride from in
-    let on : (k : ℕ) → from + r * stride + k * stride ≡ from + (r + k) * stride = λ k. omega (arith, add-mul r k stride) in
+    let v = mixed_block m src from in
+    let on : (k : ℕ) → from + r * m.stride + k * m.stride ≡ from + (r + k) * m.stride = λ k. omega (arith, add-mul r k m.stride) in
     let next : r + h ≡ (i + 1) * h = omega (arith, add-mul i 1 h) in
     stored
     ∙ painted-values s x (y + r) w h (tiled t at w) (λ k. v (r + k)) l (λ k c lk lc. holds k c lk lc ∙ ap (λ (j : ℕ). mixed_row m src j c) (on k))

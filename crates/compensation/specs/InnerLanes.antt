@@ -2,7 +2,7 @@
 -- Assumes nothing.
 use Rattle.std.specs.Prelude.{◌≡◌, List, ℕ, ◌+◌, ◌*◌, ◌/◌, ◌%◌, ◌<◌, ◌≤◌, get_or}
 use Rattle.compensation.specs.InnerKernel.{mixed_taps}
-use Rattle.compensation.specs.declared.kernel.Mix.{Mix}
+use Rattle.compensation.specs.declared.mix.Mix.{Mix}
 
 -- the sizes of a tile that `lanes` lanes have room for
 pub record Tile (w h lanes : ℕ) : Type 0 where

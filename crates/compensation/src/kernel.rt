@@ -3,33 +3,12 @@ ghost use Rattle.std.specs.Prelude.{◌≡◌, ◌+◌, ◌*◌, ◌-◌, ◌<�
 ghost use Rattle.picture.specs.InnerBlock.{BlockIn, block_painted};
 ghost use Rattle.picture.specs.InnerRows.{row};
 ghost use Rattle.compensation.specs.Formula.{formula};
-ghost use Rattle.compensation.specs.InnerKernel.{weighed, raised, mixed_taps, mixed_row, mixed_block, SumsTo12, FromSquare, MixFor, way, mixes, mix_code, four_block, extra};
+ghost use Rattle.compensation.specs.InnerKernel.{weighed, raised, mixed_taps, mixed_row, mixed_block, MixFor, way, mixes, mix_code, four_block, extra};
 ghost use Rattle.compensation.specs.InnerBlock.{Span};
 
+use crate::mix::Mix;
 use picture::Block;
 use picture::rows::store_row;
-
-// How a sample is mixed, whatever the phases: four taps weighed by weights of the sum 12.
-// The taps are two pairs: the sample's first tap with the one `beside` places on, and the two that lie `second` places on from these.
-// With `means` 1 and not 0, the taps of a pair have one weight and stand for their mean.
-#[derive(Clone, Copy)]
-pub struct Mix {
-    pub beside: usize,
-    pub second: usize,
-    pub means: u8,
-    pub wa: u16,
-    pub wb: u16,
-    pub wc: u16,
-    pub wd: u16,
-}
-
-// The sum never passes 3,066.
-fn weigh(a: u8, b: u8, c: u8, d: u8, wa: u16, wb: u16, wc: u16, wd: u16) -> u8
-    requires { wa + wb + wc + wd ≡ 12 }
-    ensures { result ≡ weighed wa wb wc wd a b c d }
-{
-    ((wa * (a as u16) + wb * (b as u16) + wc * (c as u16) + wd * (d as u16) + 6) / 12) as u8
-}
 
 // With m = 1: an even a beside an odd b gets 1 more. Of two taps of which just one is odd, each raised by the other, the even one gets it:
 // their sum is then even, and half of it is their mean, rounded up. With m = 0: a as it is.
@@ -40,25 +19,33 @@ fn raise(m: u8, a: u8, b: u8) -> u8
     a | (b & m)
 }
 
-pub fn mix_taps(mix: Mix, a: u8, b: u8, c: u8, d: u8) -> u8
-    requires { SumsTo12 mix }
-    ensures { result ≡ mixed_taps mix a b c d }
-{
-    let m = mix.means;
-    weigh(
-        raise(m, a, b),
-        raise(m, b, a),
-        raise(m, c, d),
-        raise(m, d, c),
-        mix.wa,
-        mix.wb,
-        mix.wc,
-        mix.wd,
-    )
+impl Mix {
+    // The sum never passes 3,066.
+    fn weigh(self, a: u8, b: u8, c: u8, d: u8) -> u8
+        ensures { result ≡ weighed self.wa self.wb self.wc self.wd a b c d }
+    {
+        let sum = self.wa * (a as u16)
+            + self.wb * (b as u16)
+            + self.wc * (c as u16)
+            + self.wd * (d as u16);
+        ((sum + 6) / 12) as u8
+    }
+
+    pub fn sample(self, a: u8, b: u8, c: u8, d: u8) -> u8
+        ensures { result ≡ mixed_taps self a b c d }
+    {
+        let m = self.means;
+        self.weigh(
+            raise(m, a, b),
+            raise(m, b, a),
+            raise(m, c, d),
+            raise(m, d, c),
+        )
+    }
 }
 
 fn mix_row(dst: &mut [u8], src: &[u8], to: usize, from: usize, n: usize, mix: Mix)
-    requires { SumsTo12 mix × (to + n ≤ length dst.old) × (from + n + (mix.beside + mix.second) ≤ length src.now) }
+    requires { (to + n ≤ length dst.old) × (from + n + (mix.beside + mix.second) ≤ length src.now) }
     ensures { dst.new ≡ row dst.old to (mixed_row mix src.now from) n }
 {
     for c in 0..n {
@@ -66,19 +53,18 @@ fn mix_row(dst: &mut [u8], src: &[u8], to: usize, from: usize, n: usize, mix: Mi
         let beside = src[i + mix.beside];
         let second = src[i + mix.second];
         let last = src[i + (mix.beside + mix.second)];
-        dst[to + c] = mix_taps(mix, src[i], beside, second, last);
+        dst[to + c] = mix.sample(src[i], beside, second, last);
     }
 }
 
 // The block whose taps start at `from` of `src`.
-pub fn mix_block(dst: &mut [u8], src: &[u8], b: Block, stride: usize, from: usize, mix: Mix)
-    requires from_square { FromSquare stride mix }
-    requires block_in { BlockIn b (length dst.old) × (from + b.h * stride + b.w < length src.now) }
-    ensures { dst.new ≡ block_painted b (mixed_block mix src.now stride from) dst.old }
+pub fn mix_block(dst: &mut [u8], src: &[u8], b: Block, from: usize, mix: Mix)
+    requires { BlockIn b (length dst.old) × (from + b.h * mix.stride + b.w < length src.now) }
+    ensures { dst.new ≡ block_painted b (mixed_block mix src.now from) dst.old }
 {
     for r in 0..b.h {
         let to = (b.y + r) * b.stride + b.x;
-        mix_row(dst, src, to, from + r * stride, b.w, mix);
+        mix_row(dst, src, to, from + r * mix.stride, b.w, mix);
     }
 }
 
@@ -107,21 +93,23 @@ fn mixes_of(down: u32) -> u64
 
 fn mix_code(px: u32, py: u32) -> u32
     requires { (px < 6) × (py < 6) }
-    ensures { result ≡ mix_code px py }
+    ensures is { result ≡ mix_code px py }
+    ensures four_digits { result < 65536 }
 {
     let shift = 16 * way_of(px);
     ((mixes_of(way_of(py)) >> shift) % 65536) as u32
 }
 
-// The mix of two phases, for a source whose rows are `below` samples long. Halfway down, a pair is a tap and the one below it; else it is two
+// The mix of two phases, for a source whose rows are `stride` samples long. Halfway down, a pair is a tap and the one below it; else it is two
 // taps of a row.
-pub fn mix_of(px: u32, py: u32, below: usize) -> Mix
+pub fn mix_of(px: u32, py: u32, stride: usize) -> Mix
     requires { (px < 6) × (py < 6) }
-    ensures { MixFor px py below result }
+    ensures { MixFor px py stride result }
 {
     let code = mix_code(px, py);
-    let (beside, second) = if py == 3 { (below, 1) } else { (1, below) };
+    let (beside, second) = if py == 3 { (stride, 1) } else { (1, stride) };
     Mix {
+        stride,
         beside,
         second,
         means: (code / 32768) as u8,

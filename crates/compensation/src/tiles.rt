@@ -6,11 +6,12 @@ ghost use Rattle.picture.specs.Painted.{Inside, painted};
 ghost use Rattle.picture.specs.InnerBlock.{BlockIn, block_painted};
 ghost use Rattle.picture.specs.InnerRows.{row};
 ghost use Rattle.compensation.specs.Formula.{formula};
-ghost use Rattle.compensation.specs.InnerKernel.{SumsTo12, FromSquare, mixed_block, four_block, extra};
+ghost use Rattle.compensation.specs.InnerKernel.{mixed_block, four_block, extra};
 ghost use Rattle.compensation.specs.InnerLanes.{Tile, lane_at, tiled, taken_at, Holds, mixed_lane};
 ghost use Rattle.compensation.specs.InnerBlock.{Span};
 
-use crate::kernel::{Mix, copy_by_width, extra_of, mix_block, mix_of, mix_taps};
+use crate::kernel::{copy_by_width, extra_of, mix_block, mix_of};
+use crate::mix::Mix;
 use picture::Block;
 
 // W × H samples of `src`, row after row, into the lanes from `at` on.
@@ -80,30 +81,23 @@ fn mix_lanes(
     last: [u8; 16],
     mix: Mix,
 ) -> [u8; 16]
-    requires { SumsTo12 mix }
     ensures { result ≡ row (replicate 16 0) 0 (mixed_lane mix first beside second last) 16 }
 {
     let mut t = [0u8; 16];
     for k in 0..16 {
-        t[k] = mix_taps(mix, first[k], beside[k], second[k], last[k]);
+        t[k] = mix.sample(first[k], beside[k], second[k], last[k]);
     }
     t
 }
 
-fn mix_tile<const W: usize, const H: usize>(
-    src: &[u8],
-    from: usize,
-    stride: usize,
-    mix: Mix,
-) -> [u8; 16]
-    requires tile { Tile W H 16 }
-    requires taps { FromSquare stride mix × (from + H * stride + W < length src.now) }
-    ensures { Holds result 0 W H (mixed_block mix src.now stride from) }
+fn mix_tile<const W: usize, const H: usize>(src: &[u8], from: usize, mix: Mix) -> [u8; 16]
+    requires { Tile W H 16 × (from + H * mix.stride + W < length src.now) }
+    ensures { Holds result 0 W H (mixed_block mix src.now from) }
 {
-    let first = load_tile::<W, H>(src, from, stride);
-    let beside = load_tile::<W, H>(src, from + mix.beside, stride);
-    let second = load_tile::<W, H>(src, from + mix.second, stride);
-    let last = load_tile::<W, H>(src, from + (mix.beside + mix.second), stride);
+    let first = load_tile::<W, H>(src, from, mix.stride);
+    let beside = load_tile::<W, H>(src, from + mix.beside, mix.stride);
+    let second = load_tile::<W, H>(src, from + mix.second, mix.stride);
+    let last = load_tile::<W, H>(src, from + (mix.beside + mix.second), mix.stride);
     mix_lanes(first, beside, second, last, mix)
 }
 
@@ -112,18 +106,16 @@ fn mix_tiles<const W: usize, const H: usize>(
     dst: &mut [u8],
     src: &[u8],
     b: Block,
-    stride: usize,
     from: usize,
     mix: Mix,
 )
     requires tile { Tile W H 16 × (b.w ≡ W) × (b.h % H ≡ 0) }
-    requires from_square { FromSquare stride mix }
-    requires block_in { BlockIn b (length dst.old) × (from + b.h * stride + b.w < length src.now) }
-    ensures { dst.new ≡ block_painted b (mixed_block mix src.now stride from) dst.old }
+    requires block_in { BlockIn b (length dst.old) × (from + b.h * mix.stride + b.w < length src.now) }
+    ensures { dst.new ≡ block_painted b (mixed_block mix src.now from) dst.old }
 {
     for i in 0..b.h / H {
         let r = i * H;
-        let t = mix_tile::<W, H>(src, from + r * stride, stride, mix);
+        let t = mix_tile::<W, H>(src, from + r * mix.stride, mix);
         store_lanes::<W, H>(dst, b.stride, b.x, b.y + r, t, 0);
     }
 }
@@ -133,17 +125,15 @@ fn mix_tile_pair<const W: usize, const H: usize>(
     rcb: &[u8],
     rcr: &[u8],
     from: usize,
-    stride: usize,
     mix: Mix,
 ) -> [u8; 16]
-    requires tile { Tile W H 8 }
-    requires taps { FromSquare stride mix × (from + H * stride + W < length rcb.now) × (from + H * stride + W < length rcr.now) }
-    ensures { Holds result 0 W H (mixed_block mix rcb.now stride from) × Holds result (W * H) W H (mixed_block mix rcr.now stride from) }
+    requires { Tile W H 8 × (from + H * mix.stride + W < length rcb.now) × (from + H * mix.stride + W < length rcr.now) }
+    ensures { Holds result 0 W H (mixed_block mix rcb.now from) × Holds result (W * H) W H (mixed_block mix rcr.now from) }
 {
-    let first = load_both::<W, H>(rcb, rcr, from, stride);
-    let beside = load_both::<W, H>(rcb, rcr, from + mix.beside, stride);
-    let second = load_both::<W, H>(rcb, rcr, from + mix.second, stride);
-    let last = load_both::<W, H>(rcb, rcr, from + (mix.beside + mix.second), stride);
+    let first = load_both::<W, H>(rcb, rcr, from, mix.stride);
+    let beside = load_both::<W, H>(rcb, rcr, from + mix.beside, mix.stride);
+    let second = load_both::<W, H>(rcb, rcr, from + mix.second, mix.stride);
+    let last = load_both::<W, H>(rcb, rcr, from + (mix.beside + mix.second), mix.stride);
     mix_lanes(first, beside, second, last, mix)
 }
 
@@ -158,44 +148,41 @@ fn mix_tile_pairs<const W: usize, const H: usize>(
     mix: Mix,
 )
     requires tile { Tile W H 8 × (b.w ≡ W) × (b.h % H ≡ 0) }
-    requires from_square { FromSquare b.stride mix }
     requires block_in { BlockIn b (length cb.old) × BlockIn b (length cr.old) }
-    requires w_in_bounds { (from + b.h * b.stride + b.w < length rcb.now) × (from + b.h * b.stride + b.w < length rcr.now) }
-    ensures cb_after { cb.new ≡ block_painted b (mixed_block mix rcb.now b.stride from) cb.old }
-    ensures cr_after { cr.new ≡ block_painted b (mixed_block mix rcr.now b.stride from) cr.old }
+    requires taps { (from + b.h * mix.stride + b.w < length rcb.now) × (from + b.h * mix.stride + b.w < length rcr.now) }
+    ensures cb_after { cb.new ≡ block_painted b (mixed_block mix rcb.now from) cb.old }
+    ensures cr_after { cr.new ≡ block_painted b (mixed_block mix rcr.now from) cr.old }
 {
     for i in 0..b.h / H {
         let r = i * H;
-        let t = mix_tile_pair::<W, H>(rcb, rcr, from + r * b.stride, b.stride, mix);
+        let t = mix_tile_pair::<W, H>(rcb, rcr, from + r * mix.stride, mix);
         store_lanes::<W, H>(cb, b.stride, b.x, b.y + r, t, 0);
         store_lanes::<W, H>(cr, b.stride, b.x, b.y + r, t, W * H);
     }
 }
 
 // A block by tiles, where its width and height allow it: as `mix_block` answers it.
-fn mix_one(dst: &mut [u8], src: &[u8], b: Block, stride: usize, from: usize, mix: Mix)
-    requires from_square { FromSquare stride mix }
-    requires block_in { BlockIn b (length dst.old) × (from + b.h * stride + b.w < length src.now) }
-    ensures { dst.new ≡ block_painted b (mixed_block mix src.now stride from) dst.old }
+fn mix_one(dst: &mut [u8], src: &[u8], b: Block, from: usize, mix: Mix)
+    requires { BlockIn b (length dst.old) × (from + b.h * mix.stride + b.w < length src.now) }
+    ensures { dst.new ≡ block_painted b (mixed_block mix src.now from) dst.old }
 {
     if (b.w == 4) & (b.h % 4 == 0) {
-        mix_tiles::<4, 4>(dst, src, b, stride, from, mix);
+        mix_tiles::<4, 4>(dst, src, b, from, mix);
     } else if (b.w == 8) & (b.h % 2 == 0) {
-        mix_tiles::<8, 2>(dst, src, b, stride, from, mix);
+        mix_tiles::<8, 2>(dst, src, b, from, mix);
     } else if b.w == 16 {
-        mix_tiles::<16, 1>(dst, src, b, stride, from, mix);
+        mix_tiles::<16, 1>(dst, src, b, from, mix);
     } else {
-        mix_block(dst, src, b, stride, from, mix);
+        mix_block(dst, src, b, from, mix);
     }
 }
 
 // The same block of two planes.
 fn mix_pair(cb: &mut [u8], cr: &mut [u8], rcb: &[u8], rcr: &[u8], b: Block, from: usize, mix: Mix)
-    requires from_square { FromSquare b.stride mix }
     requires block_in { BlockIn b (length cb.old) × BlockIn b (length cr.old) }
-    requires w_in_bounds { (from + b.h * b.stride + b.w < length rcb.now) × (from + b.h * b.stride + b.w < length rcr.now) }
-    ensures cb_after { cb.new ≡ block_painted b (mixed_block mix rcb.now b.stride from) cb.old }
-    ensures cr_after { cr.new ≡ block_painted b (mixed_block mix rcr.now b.stride from) cr.old }
+    requires taps { (from + b.h * mix.stride + b.w < length rcb.now) × (from + b.h * mix.stride + b.w < length rcr.now) }
+    ensures cb_after { cb.new ≡ block_painted b (mixed_block mix rcb.now from) cb.old }
+    ensures cr_after { cr.new ≡ block_painted b (mixed_block mix rcr.now from) cr.old }
 {
     if (b.w == 2) & (b.h == 2) {
         mix_tile_pairs::<2, 2>(cb, cr, rcb, rcr, b, from, mix);
@@ -206,8 +193,8 @@ fn mix_pair(cb: &mut [u8], cr: &mut [u8], rcb: &[u8], rcr: &[u8], b: Block, from
     } else if b.w == 8 {
         mix_tile_pairs::<8, 1>(cb, cr, rcb, rcr, b, from, mix);
     } else {
-        mix_block(cb, rcb, b, b.stride, from, mix);
-        mix_block(cr, rcr, b, b.stride, from, mix);
+        mix_block(cb, rcb, b, from, mix);
+        mix_block(cr, rcr, b, from, mix);
     }
 }
 
@@ -228,7 +215,7 @@ pub fn interpolate(
         copy_by_width(dst, src, b, stride, from);
     } else {
         let mix = mix_of(px, py, stride);
-        mix_one(dst, src, b, stride, from, mix);
+        mix_one(dst, src, b, from, mix);
     }
 }
 

@@ -10,24 +10,24 @@ use Rattle.compensation.proofs.kernel.mix_block.Goals.{In-loop-r}
 use Rattle.compensation.proofs.kernel.mix_block.Goals as goal
 
 -- the row of a turn lies within the block's place, and its taps in the source
-lies : (c : In-loop-r) → let a = c.args in Row a.b.stride a.b.x a.b.y a.b.w c.loop-r.r (length a.dst.now) × (c.loop-r.r * a.stride + a.stride ≤ a.b.h * a.stride)
-lies c = (inside-row c.requires.block_in.0 c.loop-r-test.true, more c.args.stride c.loop-r-test.true)
+lies : (c : In-loop-r) → let a = c.args in Row a.b.stride a.b.x a.b.y a.b.w c.loop-r.r (length a.dst.now) × (c.loop-r.r * a.mix.stride + a.mix.stride ≤ a.b.h * a.mix.stride)
+lies c = (inside-row c.requires.0 c.loop-r-test.true, more c.args.mix.stride c.loop-r-test.true)
 
 pub loop-r-init : goal.loop-r-init
 unfolding rows
 loop-r-init c = (refl, refl)
 
 pub mix_row-requires : goal.mix_row-requires
-mix_row-requires c = (c.requires.from_square.weights, omega (arith, lies (goal.at.mix_row-requires c).In-loop-r), omega (arith, lies (goal.at.mix_row-requires c).In-loop-r))
+mix_row-requires c = (omega (arith, lies (goal.at.mix_row-requires c).In-loop-r), omega (arith, lies (goal.at.mix_row-requires c).In-loop-r))
 
 pub loop-r-preserved : goal.loop-r-preserved
 unfolding mixed_block
 loop-r-preserved c =
     let a = c.args in
     let l = c.loop-r in
-    (omega (arith, c.mix_row.auto.dst), rows_more a.dst.now a.b.stride a.b.x a.b.y (mixed_block a.mix a.src.now a.stride a.from) a.b.w l.r l.invariant.1 c.mix_row.ensures)
+    (omega (arith, c.mix_row.auto.dst), rows_more a.dst.now a.b.stride a.b.x a.b.y (mixed_block a.mix a.src.now a.from) a.b.w l.r l.invariant.1 c.mix_row.ensures)
 
 pub returns : goal.returns
 returns c =
     let e : c.loop-r.r ≡ c.args.b.h = omega arith in
-    c.loop-r.invariant.1 ∙ rw e (rows-painted 0 _ _ c.requires.block_in.0)
+    c.loop-r.invariant.1 ∙ rw e (rows-painted 0 _ _ c.requires.0)

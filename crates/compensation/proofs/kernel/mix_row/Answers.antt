@@ -16,7 +16,7 @@ unfolding mixed_row mixed_at
 loop-c-preserved c =
     let a = c.args in
     let l = c.loop-c in
-    (simp length-set (omega arith), row_more a.dst.now a.to (mixed_row a.mix a.src.now a.from) l.c l.invariant.1 c.mix_taps.ensures)
+    (simp length-set (omega arith), row_more a.dst.now a.to (mixed_row a.mix a.src.now a.from) l.c l.invariant.1 c.sample.ensures)
 
 pub returns : goal.returns
 returns c =

@@ -19,7 +19,7 @@ pub mix_of-mix-requires : goal.mix_of-mix-requires
 mix_of-mix-requires c = (c.requires.2, c.requires.3)
 
 pub mix_one-requires : goal.mix_one-requires
-mix_one-requires c = record { from_square = c.mix_of-mix.ensures.square; block_in = (c.requires.1, room (goal.at.mix_one-requires c).Else-extra_of-eq0) }
+mix_one-requires c = (c.requires.1, rw c.mix_of-mix.ensures.rows (room (goal.at.mix_one-requires c).Else-extra_of-eq0))
 
 pub returns-then-extra_of-eq0 : goal.returns-then-extra_of-eq0
 returns-then-extra_of-eq0 c =

@@ -23,7 +23,7 @@ mix_of-mix-requires c = (c.requires.span.3, c.requires.span.4)
 
 pub mix_pair-requires : goal.mix_pair-requires
 mix_pair-requires c =
-    record { from_square = c.mix_of-mix.ensures.square; block_in = (c.requires.span.1, c.requires.span.2); w_in_bounds = (cb-room (goal.at.mix_pair-requires c).Else-extra_of-eq0, cr-room (goal.at.mix_pair-requires c).Else-extra_of-eq0) }
+    record { block_in = (c.requires.span.1, c.requires.span.2); taps = rw c.mix_of-mix.ensures.rows (cb-room (goal.at.mix_pair-requires c).Else-extra_of-eq0, cr-room (goal.at.mix_pair-requires c).Else-extra_of-eq0) }
 
 pub returns-then-extra_of-eq0 : goal.returns-then-extra_of-eq0
 returns-then-extra_of-eq0 c =

@@ -16,4 +16,4 @@ unfolding mixed_lane
 loop-k-preserved c =
     let a = c.args in
     let l = c.loop-k in
-    rw zero-add at (row_more (replicate 16 0) 0 (mixed_lane a.mix a.first a.beside a.second a.last) l.k l.invariant c.mix_taps.ensures)
+    rw zero-add at (row_more (replicate 16 0) 0 (mixed_lane a.mix a.first a.beside a.second a.last) l.k l.invariant c.sample.ensures)

@@ -14,18 +14,18 @@ returns g c =
     let q = c.load_both-beside.ensures in
     let u = c.load_both-second.ensures in
     let v = c.load_both-last.ensures in (
-      mixed-tile a.mix a.rcb.now a.stride a.from 0 w h (omega arith) _ _ _ _ c.mix_lanes.ensures p.0 q.0 u.0 v.0,
-      mixed-tile a.mix a.rcr.now a.stride a.from (w * h) w h (omega arith) _ _ _ _ c.mix_lanes.ensures p.1 q.1 u.1 v.1,
+      mixed-tile a.mix a.rcb.now a.from 0 w h (omega arith) _ _ _ _ c.mix_lanes.ensures p.0 q.0 u.0 v.0,
+      mixed-tile a.mix a.rcr.now a.from (w * h) w h (omega arith) _ _ _ _ c.mix_lanes.ensures p.1 q.1 u.1 v.1,
     )
 
 pub overflow_add-from : goal.overflow_add-from
-overflow_add-from g c = omega (arith, mul-le-mul_right c.args.stride c.requires.tile.down)
+overflow_add-from g c = omega (arith, mul-le-mul_right c.args.mix.stride c.requires.0.down)
 
 pub overflow_add-from-2 : goal.overflow_add-from-2
-overflow_add-from-2 g c = omega (arith, mul-le-mul_right c.args.stride c.requires.tile.down)
+overflow_add-from-2 g c = omega (arith, mul-le-mul_right c.args.mix.stride c.requires.0.down)
 
 pub overflow_add-mix : goal.overflow_add-mix
-overflow_add-mix g c = omega (arith, mul-le-mul_right c.args.stride c.requires.tile.down)
+overflow_add-mix g c = omega (arith, mul-le-mul_right c.args.mix.stride c.requires.0.down)
 
 pub overflow_add-from-3 : goal.overflow_add-from-3
-overflow_add-from-3 g c = omega (arith, mul-le-mul_right c.args.stride c.requires.tile.down)
+overflow_add-from-3 g c = omega (arith, mul-le-mul_right c.args.mix.stride c.requires.0.down)

@@ -7,4 +7,4 @@ use Rattle.compensation.specs.InnerKernel.{mixed_block}
 use Rattle.compensation.proofs.tiles.mix_tiles.Given as goal
 
 abbrev pub invariant-loop-i : goal.invariant-loop-i
-invariant-loop-i g l = (length l.dst ≡ length l.initial.dst) × (l.dst ≡ rows l.initial.dst l.b.stride l.b.x l.b.y (mixed_block l.mix l.src l.stride l.from) g.row.W (l.i * g.row.H))
+invariant-loop-i g l = (length l.dst ≡ length l.initial.dst) × (l.dst ≡ rows l.initial.dst l.b.stride l.b.x l.b.y (mixed_block l.mix l.src l.from) g.row.W (l.i * g.row.H))
