@@ -74,6 +74,7 @@ fn load_both<const W: usize, const H: usize>(
 }
 
 // Sixteen samples by the four taps of a mix.
+// By a loop: `array::from_fn` tells of a lane that some call gave it, not with which captured taps, and the proof did not close.
 fn mix_lanes(
     first: [u8; 16],
     beside: [u8; 16],

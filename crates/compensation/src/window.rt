@@ -24,7 +24,7 @@ fn near_of(n: usize, i: usize) -> usize
     i.saturating_sub(17).min(n - 1)
 }
 
-// The columns of the taps of a row: they are the same in every row of a block.
+// The columns of the taps of a row: they are the same in every row of a block. By a loop, as in `tiles::mix_lanes`.
 fn columns_of(width: usize, bx: usize) -> [usize; 17]
     requires { (0 < width) × (bx ≤ 131072) }
     ensures { result ≡ row (replicate 17 0) 0 (near_from width bx) 17 }
