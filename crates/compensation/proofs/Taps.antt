@@ -250,7 +250,7 @@ module _ (o : ℤ) (n side : ℕ) (small : side ≤ 65536) (e : lies_in o n side
 -- ---- a block that says that its taps lie inside
 module _ {width height w h size : ℕ} (t : Taps) (full : Whole width height size) (s : Span w h) (p : TapsIn width height w h t) (e : t.inside ≡ true) where
   abbrev more-taps : ℕ
-  more-taps = extra t.px t.py
+  more-taps = extra t.phases.px t.phases.py
 
   abbrev column : ℕ
   column = nat_abs (read w64 t.ox)
@@ -281,7 +281,7 @@ module _ {width height w h size : ℕ} (t : Taps) (full : Whole width height siz
   taps-room plane whole is = rw is (inside-room plane width height column line w h more-taps whole s.down.0 taps-line.1 taps-column.1)
 
   pub taps-block : (plane : List ℕ) {by : ℕ} → by ≡ width → (stride dx dy : ℕ) (l : List ℕ)
-      → painted stride dx dy w h (four_block (formula t.px t.py) plane by (line * width + column)) l ≡ painted stride dx dy w h (window_block (formula t.px t.py) plane width height (origin_of width t.ox) (origin_of height t.oy)) l
+      → painted stride dx dy w h (four_block (formula t.phases.px t.phases.py) plane by (line * width + column)) l ≡ painted stride dx dy w h (window_block (formula t.phases.px t.phases.py) plane width height (origin_of width t.ox) (origin_of height t.oy)) l
   taps-block plane is stride dx dy l =
       painted-values stride dx dy w h _ _ l
-      (λ r c lr lc. rw (is, taps-column.2, taps-line.2) (inside-sample plane width height column line t.px t.py r c w h taps-line.1 taps-column.1 lr lc))
+      (λ r c lr lc. rw (is, taps-column.2, taps-line.2) (inside-sample plane width height column line t.phases.px t.phases.py r c w h taps-line.1 taps-column.1 lr lc))

@@ -6,7 +6,7 @@ ghost use Rattle.compensation.specs.Formula.{formula};
 ghost use Rattle.compensation.specs.InnerKernel.{weighed, raised, mixed_taps, mixed_row, mixed_block, MixFor, way, mixes, mix_code, four_block, extra};
 ghost use Rattle.compensation.specs.InnerBlock.{Span};
 
-use crate::mix::Mix;
+use crate::mix::{Mix, Phases};
 use picture::Block;
 use picture::rows::store_row;
 
@@ -91,23 +91,21 @@ fn mixes_of(down: u32) -> u64
     }
 }
 
-fn mix_code(px: u32, py: u32) -> u32
-    requires { (px < 6) × (py < 6) }
-    ensures is { result ≡ mix_code px py }
+fn mix_code(p: Phases) -> u32
+    ensures is { result ≡ mix_code p.px p.py }
     ensures four_digits { result < 65536 }
 {
-    let shift = 16 * way_of(px);
-    ((mixes_of(way_of(py)) >> shift) % 65536) as u32
+    let shift = 16 * way_of(p.px);
+    ((mixes_of(way_of(p.py)) >> shift) % 65536) as u32
 }
 
 // The mix of two phases, for a source whose rows are `stride` samples long. Halfway down, a pair is a tap and the one below it; else it is two
 // taps of a row.
-pub fn mix_of(px: u32, py: u32, stride: usize) -> Mix
-    requires { (px < 6) × (py < 6) }
-    ensures { MixFor px py stride result }
+pub fn mix_of(p: Phases, stride: usize) -> Mix
+    ensures { MixFor p.px p.py stride result }
 {
-    let code = mix_code(px, py);
-    let (beside, second) = if py == 3 { (stride, 1) } else { (1, stride) };
+    let code = mix_code(p);
+    let (beside, second) = if p.py == 3 { (stride, 1) } else { (1, stride) };
     Mix {
         stride,
         beside,
@@ -121,10 +119,10 @@ pub fn mix_of(px: u32, py: u32, stride: usize) -> Mix
 }
 
 // How many taps past its samples a block reads, each way.
-pub fn extra_of(px: u32, py: u32) -> usize
-    ensures { (result ≡ extra px py) × (result ≤ 1) }
+pub fn extra_of(p: Phases) -> usize
+    ensures { (result ≡ extra p.px p.py) × (result ≤ 1) }
 {
-    if px == 0 && py == 0 { 0 } else { 1 }
+    if p.px == 0 && p.py == 0 { 0 } else { 1 }
 }
 
 // Whole samples: rows that are copied. The width is a number of its own, so that it can be a literal.

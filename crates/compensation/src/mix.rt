@@ -1,5 +1,14 @@
 // How samples are mixed from taps.
-ghost use Rattle.std.specs.Prelude.{◌≡◌, ◌+◌, ◌≤◌};
+ghost use Rattle.std.specs.Prelude.{◌≡◌, ◌+◌, ◌<◌, ◌≤◌};
+
+// How far the samples of a block lie past whole ones, across and down, in sixths.
+#[derive(Clone, Copy)]
+pub struct Phases {
+    pub px: u32,
+    pub py: u32,
+    pub ghost across: { px < 6 },
+    pub ghost down: { py < 6 },
+}
 
 // How a sample is mixed, whatever the phases: four taps of a source whose rows are `stride` samples long, weighed by twelfths.
 // The taps are the corners of a square, in two pairs: the sample's first tap with the one `beside` places on, and the two that lie `second` places on from these.

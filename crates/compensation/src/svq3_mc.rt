@@ -8,6 +8,7 @@ ghost use Rattle.compensation.specs.InnerBlock.{Whole, Span};
 ghost use Rattle.compensation.specs.Block.{block_answer, block_out, halved};
 
 use crate::kernel::extra_of;
+use crate::mix::Phases;
 use crate::tiles::{interpolate, interpolate_pair};
 use crate::window::{gather, origin};
 use picture::{Block, Size};
@@ -18,6 +19,7 @@ use state::sides_fit;
 pub struct MvComponentSplit {
     pub whole: i64,
     pub phase: u32,
+    pub ghost sixths: { phase < 6 },
 }
 
 // Rounded down by one unsigned division: 6 · 357,913,942 is more than any vector is below 0.
@@ -35,8 +37,7 @@ pub fn split_mv_component(v: i32) -> MvComponentSplit
 // How a block reads its taps: the phases, where its first tap lies, and whether all lie inside the plane.
 #[derive(Clone, Copy)]
 pub struct Taps {
-    pub px: u32,
-    pub py: u32,
+    pub phases: Phases,
     pub ox: i64,
     pub oy: i64,
     pub inside: bool,
@@ -53,20 +54,21 @@ fn lies_in(first: i64, n: usize, side: usize) -> bool
 // The taps of the w × h block at (x, y) of a plane with the vector (vx, vy).
 pub fn taps_of(w: usize, h: usize, size: Size, x: i32, y: i32, vx: i32, vy: i32) -> Taps
     requires { Span w h × (0 < size.width) × (size.width ≤ 65536) × (0 < size.height) × (size.height ≤ 65536) }
-    ensures placed { Placed x y vx vy result.ox result.oy result.px result.py }
+    ensures placed { Placed x y vx vy result.ox result.oy result.phases.px result.phases.py }
     ensures taps_in { TapsIn size.width size.height w h result }
 {
     let sx = split_mv_component(vx);
     let sy = split_mv_component(vy);
-    let px = sx.phase;
-    let py = sy.phase;
+    let phases = Phases {
+        px: sx.phase,
+        py: sy.phase,
+    };
     let ox = (x as i64) + sx.whole;
     let oy = (y as i64) + sy.whole;
-    let e = extra_of(px, py);
+    let e = extra_of(phases);
     let inside = lies_in(ox, w + e, size.width) & lies_in(oy, h + e, size.height);
     Taps {
-        px,
-        py,
+        phases,
         ox,
         oy,
         inside,
@@ -75,7 +77,7 @@ pub fn taps_of(w: usize, h: usize, size: Size, x: i32, y: i32, vx: i32, vy: i32)
 
 // A block some of whose taps lie past an edge.
 fn across_edge(dst: &mut [u8], plane: &[u8], b: Block, size: Size, t: Taps)
-    requires span { Span b.w b.h × BlockIn b (length dst.old) × (t.px < 6) × (t.py < 6) }
+    requires span { Span b.w b.h × BlockIn b (length dst.old) }
     requires whole { Whole size.width size.height (length plane.now) }
     ensures { dst.new ≡ block_painted b (tapped size t plane.now) dst.old }
 {
@@ -83,7 +85,7 @@ fn across_edge(dst: &mut [u8], plane: &[u8], b: Block, size: Size, t: Taps)
     let by = origin(t.oy, size.height);
     let mut window = [0u8; 578];
     let from = gather(&mut window, plane, size, bx, by, b.h + 1);
-    interpolate(dst, &window, b, 34, from, t.px, t.py);
+    interpolate(dst, &window, b, 34, from, t.phases);
 }
 
 // A block by its taps.
@@ -93,7 +95,7 @@ pub fn compensate_taps(dst: &mut [u8], plane: &[u8], b: Block, size: Size, t: Ta
 {
     if t.inside {
         let from = (t.oy as usize) * size.width + (t.ox as usize);
-        interpolate(dst, plane, b, size.width, from, t.px, t.py);
+        interpolate(dst, plane, b, size.width, from, t.phases);
     } else {
         across_edge(dst, plane, b, size, t);
     }
@@ -116,7 +118,7 @@ pub fn compensate_both(
 {
     if t.inside {
         let from = (t.oy as usize) * size.width + (t.ox as usize);
-        interpolate_pair(cb, cr, rcb, rcr, b, from, t.px, t.py);
+        interpolate_pair(cb, cr, rcb, rcr, b, from, t.phases);
     } else {
         across_edge(cb, rcb, b, size, t);
         across_edge(cr, rcr, b, size, t);

@@ -11,7 +11,7 @@ ghost use Rattle.compensation.specs.InnerLanes.{Tile, lane_at, tiled, taken_at, 
 ghost use Rattle.compensation.specs.InnerBlock.{Span};
 
 use crate::kernel::{copy_by_width, extra_of, mix_block, mix_of};
-use crate::mix::Mix;
+use crate::mix::{Mix, Phases};
 use picture::Block;
 
 // W × H samples of `src`, row after row, into the lanes from `at` on.
@@ -199,23 +199,15 @@ fn mix_pair(cb: &mut [u8], cr: &mut [u8], rcb: &[u8], rcr: &[u8], b: Block, from
     }
 }
 
-// The block whose taps start at `from` of `src`, at the phases px and py.
-pub fn interpolate(
-    dst: &mut [u8],
-    src: &[u8],
-    b: Block,
-    stride: usize,
-    from: usize,
-    px: u32,
-    py: u32,
-)
-    requires { Span b.w b.h × BlockIn b (length dst.old) × (px < 6) × (py < 6) × (from + (b.h - 1 + extra px py) * stride + b.w + extra px py ≤ length src.now) }
-    ensures { dst.new ≡ block_painted b (four_block (formula px py) src.now stride from) dst.old }
+// The block whose taps start at `from` of `src`, at the phases p.
+pub fn interpolate(dst: &mut [u8], src: &[u8], b: Block, stride: usize, from: usize, p: Phases)
+    requires { Span b.w b.h × BlockIn b (length dst.old) × (from + (b.h - 1 + extra p.px p.py) * stride + b.w + extra p.px p.py ≤ length src.now) }
+    ensures { dst.new ≡ block_painted b (four_block (formula p.px p.py) src.now stride from) dst.old }
 {
-    if extra_of(px, py) == 0 {
+    if extra_of(p) == 0 {
         copy_by_width(dst, src, b, stride, from);
     } else {
-        let mix = mix_of(px, py, stride);
+        let mix = mix_of(p, stride);
         mix_one(dst, src, b, from, mix);
     }
 }
@@ -228,19 +220,18 @@ pub fn interpolate_pair(
     rcr: &[u8],
     b: Block,
     from: usize,
-    px: u32,
-    py: u32,
+    p: Phases,
 )
-    requires span { Span b.w b.h × BlockIn b (length cb.old) × BlockIn b (length cr.old) × (px < 6) × (py < 6) }
-    requires py_in_bounds { (from + (b.h - 1 + extra px py) * b.stride + b.w + extra px py ≤ length rcb.now) × (from + (b.h - 1 + extra px py) * b.stride + b.w + extra px py ≤ length rcr.now) }
-    ensures cb_after { cb.new ≡ block_painted b (four_block (formula px py) rcb.now b.stride from) cb.old }
-    ensures cr_after { cr.new ≡ block_painted b (four_block (formula px py) rcr.now b.stride from) cr.old }
+    requires span { Span b.w b.h × BlockIn b (length cb.old) × BlockIn b (length cr.old) }
+    requires taps { (from + (b.h - 1 + extra p.px p.py) * b.stride + b.w + extra p.px p.py ≤ length rcb.now) × (from + (b.h - 1 + extra p.px p.py) * b.stride + b.w + extra p.px p.py ≤ length rcr.now) }
+    ensures cb_after { cb.new ≡ block_painted b (four_block (formula p.px p.py) rcb.now b.stride from) cb.old }
+    ensures cr_after { cr.new ≡ block_painted b (four_block (formula p.px p.py) rcr.now b.stride from) cr.old }
 {
-    if extra_of(px, py) == 0 {
+    if extra_of(p) == 0 {
         copy_by_width(cb, rcb, b, b.stride, from);
         copy_by_width(cr, rcr, b, b.stride, from);
     } else {
-        let mix = mix_of(px, py, b.stride);
+        let mix = mix_of(p, b.stride);
         mix_pair(cb, cr, rcb, rcr, b, from, mix);
     }
 }

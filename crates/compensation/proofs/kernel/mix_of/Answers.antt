@@ -5,26 +5,26 @@ use native.Mathlib.Omega.{arith}
 use borrow.Author.Tests.{ne_eqb}
 use Rattle.ints.specs.Z.{when◌then◌else◌}
 use Rattle.compensation.proofs.Mixes.{said-for, twelfths-for}
-use Rattle.compensation.proofs.kernel.mix_of.Goals.{then-py-eq3, else-py-eq3}
+use Rattle.compensation.proofs.kernel.mix_of.Goals.{then-p-eq3, else-p-eq3}
 use Rattle.compensation.proofs.kernel.mix_of.Goals as goal
 
 pub invariant_of-result-clause-square : goal.invariant_of-result-clause-square
 invariant_of-result-clause-square c =
-    elim c.if-py-eq3.branch [ then-py-eq3 w ↦ rw w.beside-is refl | else-py-eq3 w ↦ rw w.beside-is (omega arith) ]
+    elim c.if-p-eq3.branch [ then-p-eq3 w ↦ rw w.beside-is refl | else-p-eq3 w ↦ rw w.beside-is (omega arith) ]
 
 pub invariant_of-result-clause-twelfths : goal.invariant_of-result-clause-twelfths
-invariant_of-result-clause-twelfths c = rw c.mix_code-code.ensures.is (twelfths-for c.args.px c.requires.0 c.args.py c.requires.1)
+invariant_of-result-clause-twelfths c = rw c.mix_code-code.ensures.is (twelfths-for c.args.p.px c.args.p.across c.args.p.py c.args.p.down)
 
 pub returns : goal.returns
 unfolding when◌then◌else◌
 returns c =
     let a = c.args in
     let e = c.mix_code-code.ensures.is in
-    said-for a.stride a.px c.requires.0 a.py c.requires.1 _
+    said-for a.stride a.p.px c.args.p.across a.p.py c.args.p.down _
     (record {
       rows = refl;
-      beside = elim c.if-py-eq3.branch [ then-py-eq3 w ↦ rw (w.beside-is, w.if-py-eq3.true) refl | else-py-eq3 w ↦ rw (w.beside-is, ne_eqb a.py 3 w.if-py-eq3.false) refl ];
-      second = elim c.if-py-eq3.branch [ then-py-eq3 w ↦ rw (w.beside-is, w.if-py-eq3.true) refl | else-py-eq3 w ↦ rw (w.beside-is, ne_eqb a.py 3 w.if-py-eq3.false) refl ];
+      beside = elim c.if-p-eq3.branch [ then-p-eq3 w ↦ rw (w.beside-is, w.if-p-eq3.true) refl | else-p-eq3 w ↦ rw (w.beside-is, ne_eqb a.p.py 3 w.if-p-eq3.false) refl ];
+      second = elim c.if-p-eq3.branch [ then-p-eq3 w ↦ rw (w.beside-is, w.if-p-eq3.true) refl | else-p-eq3 w ↦ rw (w.beside-is, ne_eqb a.p.py 3 w.if-p-eq3.false) refl ];
       means = ap (λ n. n / 32768) e;
       wa = ap (λ n. n % 16) e;
       wb = ap (λ n. n / 16 % 16) e;

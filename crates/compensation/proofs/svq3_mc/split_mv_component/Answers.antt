@@ -8,6 +8,7 @@ use Rattle.ints.proofs.Fits.{signed, back}
 use Rattle.ints.proofs.Same.{reads}
 use Rattle.ints.proofs.Laws.{floor-fits}
 use Rattle.compensation.proofs.Split.{raised-small, raised-cast, raised-whole, raised-phase}
+use Rattle.compensation.proofs.svq3_mc.split_mv_component.Goals.{Start}
 use Rattle.compensation.proofs.svq3_mc.split_mv_component.Goals as goal
 
 pub overflow_add-u : goal.overflow_add-u
@@ -31,8 +32,8 @@ overflow_sub-result c =
 pub returns : goal.returns
 returns c =
     let record { v = v } = c.ranges in (
-      back w64 (overflow_sub-result c).sfits (raised-whole 357913942 (lit≤ tt) v (overflow_add-u c) (search reads depth 20)),
-      raised-phase 357913942 (lit≤ tt) v (overflow_add-u c) (search reads depth 20),
+      back w64 (overflow_sub-result (goal.at.returns c).Start).sfits (raised-whole 357913942 (lit≤ tt) v (overflow_add-u (goal.at.returns c).Start) (search reads depth 20)),
+      raised-phase 357913942 (lit≤ tt) v (overflow_add-u (goal.at.returns c).Start) (search reads depth 20),
     )
 
 pub overflow_cast-u : goal.overflow_cast-u

@@ -1,14 +1,13 @@
 -- `compensation::svq3_mc::taps_of` meets its contract: phases and place are those of the definitions.
 use mathlib.Core.Path.{◌≡◌, sym, ap, subst, ◌∙◌}
 use mathlib.Core.Bool.{◌&&◌}
-use native.Mathlib.Omega.{arith}
 use lib.IntN.{ℤ, ◌+ℤ◌}
 use mir.Syntax.{w32}
 use mir.Val.{SFits}
 use mir.Facts.{to_z-of_z}
 use Rattle.ints.specs.Z.{floor_z, mod_z}
 use Rattle.ints.proofs.Fits.{signed, via}
-use Rattle.ints.proofs.Laws.{floor-fits, mod-less}
+use Rattle.ints.proofs.Laws.{floor-fits}
 use Rattle.compensation.proofs.Split.{summed-fits, summed-is}
 use Rattle.compensation.proofs.svq3_mc.taps_of.Goals.{After-split_mv_component-sy}
 use Rattle.compensation.proofs.svq3_mc.taps_of.Goals as goal
@@ -36,10 +35,7 @@ returns c =
     let across = summed-is a.x c.split_mv_component-sx.result.whole c.ranges.x (fit (goal.at.returns c).After-split_mv_component-sy).0 ∙ ap (λ (z : ℤ). a.x +ℤ z) (wholes (goal.at.returns c).After-split_mv_component-sy).0 in
     let down = summed-is a.y c.split_mv_component-sy.result.whole c.ranges.y (fit (goal.at.returns c).After-split_mv_component-sy).1 ∙ ap (λ (z : ℤ). a.y +ℤ z) (wholes (goal.at.returns c).After-split_mv_component-sy).1 in record {
       placed = record { across_phase = p.0; down_phase = p.1; across = across; down = down };
-      taps_in = record {
-        phases = (rw p.0 (mod-less 6 a.vx (omega arith)), rw p.1 (mod-less 6 a.vy (omega arith)));
-        whether = rw (← c.extra_of-e.ensures.0) (λ i. c.lies_in.ensures i && c.lies_in-2.ensures i);
-      };
+      taps_in = record { whether = rw (← c.extra_of-e.ensures.0) (λ i. c.lies_in.ensures i && c.lies_in-2.ensures i) };
     }
 
 pub overflow_cast-ox : goal.overflow_cast-ox
