@@ -9,6 +9,7 @@ ghost use Rattle.compensation.specs.Block.{block_answer, block_out, halved};
 
 use crate::kernel::extra_of;
 use crate::mix::Phases;
+use crate::plane::Plane;
 use crate::tiles::{interpolate, interpolate_pair};
 use crate::window::{gather, origin};
 use picture::{Block, Size};
@@ -76,15 +77,14 @@ pub fn taps_of(w: usize, h: usize, size: Size, x: i32, y: i32, vx: i32, vy: i32)
 }
 
 // A block some of whose taps lie past an edge.
-fn across_edge(dst: &mut [u8], plane: &[u8], b: Block, size: Size, t: Taps)
-    requires span { Span b.w b.h × BlockIn b (length dst.old) }
-    requires whole { Whole size.width size.height (length plane.now) }
-    ensures { dst.new ≡ block_painted b (tapped size t plane.now) dst.old }
+fn across_edge(dst: &mut [u8], plane: Plane, b: Block, t: Taps)
+    requires { Span b.w b.h × BlockIn b (length dst.old) }
+    ensures { dst.new ≡ block_painted b (tapped plane.entry.size t plane.entry.samples.now) dst.old }
 {
-    let bx = origin(t.ox, size.width);
-    let by = origin(t.oy, size.height);
+    let bx = origin(t.ox, plane.size.width);
+    let by = origin(t.oy, plane.size.height);
     let mut window = [0u8; 578];
-    let from = gather(&mut window, plane, size, bx, by, b.h + 1);
+    let from = gather(&mut window, plane, bx, by, b.h + 1);
     interpolate(dst, &window, b, 34, from, t.phases);
 }
 
@@ -97,7 +97,15 @@ pub fn compensate_taps(dst: &mut [u8], plane: &[u8], b: Block, size: Size, t: Ta
         let from = (t.oy as usize) * size.width + (t.ox as usize);
         interpolate(dst, plane, b, size.width, from, t.phases);
     } else {
-        across_edge(dst, plane, b, size, t);
+        across_edge(
+            dst,
+            Plane {
+                samples: plane,
+                size,
+            },
+            b,
+            t,
+        );
     }
 }
 
@@ -120,8 +128,8 @@ pub fn compensate_both(
         let from = (t.oy as usize) * size.width + (t.ox as usize);
         interpolate_pair(cb, cr, rcb, rcr, b, from, t.phases);
     } else {
-        across_edge(cb, rcb, b, size, t);
-        across_edge(cr, rcr, b, size, t);
+        across_edge(cb, Plane { samples: rcb, size }, b, t);
+        across_edge(cr, Plane { samples: rcr, size }, b, t);
     }
 }
 

@@ -13,7 +13,7 @@ loop-r-init c = (refl, wide-none _ 0 _)
 
 pub copy_run-requires : goal.copy_run-requires
 copy_run-requires c =
-    (omega arith, omega (arith, line-place {a = c.args.from + 16} c.requires.whole.0 c.near_of.ensures.1 (omega arith)))
+    (omega arith, omega (arith, line-place {a = c.args.from + 16} c.args.plane.whole c.near_of.ensures.1 (omega arith)))
 
 pub loop-r-preserved : goal.loop-r-preserved
 unfolding run_at
@@ -22,12 +22,12 @@ loop-r-preserved c =
     let l = c.loop-r in
     let line = c.near_of.ensures.0 in
     let at = l.r * 34 in
-    let u = run a.plane.now (c.near_of.result * a.size.width + a.from) in
+    let u = run a.plane.samples.now (c.near_of.result * a.plane.size.width + a.from) in
     let e = c.copy_run.ensures in (
       omega (arith, c.copy_run.auto.window),
       wide-more
           (wide-kept l.window at u e (omega arith) (omega arith) l.invariant.1)
-          (λ k lk. wide-here l.window at u e 0 l.r k (omega arith) (omega arith) lk ∙ (λ i. run a.plane.now (line i * a.size.width + a.from) k)),
+          (λ k lk. wide-here l.window at u e 0 l.r k (omega arith) (omega arith) lk ∙ (λ i. run a.plane.samples.now (line i * a.plane.size.width + a.from) k)),
     )
 
 pub returns : goal.returns
