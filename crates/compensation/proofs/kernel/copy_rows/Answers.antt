@@ -1,21 +1,13 @@
 -- `compensation::kernel::copy_rows` meets its contract: one row a turn.
 use mathlib.Core.Path.{◌≡◌, refl, ◌∙◌}
-use Prim.Native.Nat.{◌≤◌, ◌-◌, ◌*◌}
-use native.Mathlib.Nat.{mul-le-mul_right}
 use native.Mathlib.Omega.{arith}
-use lib.ListN.{length}
 use Rattle.picture.specs.InnerRows.{rows, run}
-use Rattle.picture.proofs.Laws.{Row, inside-row, rows_more, rows-painted}
+use Rattle.picture.proofs.Laws.{rows_more, rows-painted}
 use Rattle.compensation.specs.Formula.{along, formula}
 use Rattle.ints.specs.Z.{when◌then◌else◌}
 use Rattle.compensation.specs.InnerKernel.{four_at, four_row, four_block}
 use Rattle.compensation.proofs.kernel.copy_rows.Goals.{In-loop-r}
 use Rattle.compensation.proofs.kernel.copy_rows.Goals as goal
-
--- the row of a turn lies within the block's place, and its samples in the source
-lies : (c : In-loop-r) → let a = c.args in Row a.b.stride a.b.x a.b.y a.b.w c.loop-r.r (length a.dst.now) × (c.loop-r.r * a.stride ≤ (a.b.h - 1) * a.stride)
-lies c =
-    (inside-row c.requires.span.1 c.loop-r-test.true, mul-le-mul_right c.args.stride (omega arith))
 
 pub loop-r-init : goal.loop-r-init
 unfolding rows

@@ -1,24 +1,15 @@
 -- `compensation::kernel::mix_block` meets its contract: one row a turn.
 use mathlib.Core.Path.{◌≡◌, refl, ◌∙◌}
-use Prim.Native.Nat.{◌≤◌, ◌+◌, ◌*◌}
 use native.Mathlib.Omega.{arith}
-use lib.ListN.{length}
 use Rattle.picture.specs.InnerRows.{rows}
-use Rattle.picture.proofs.Laws.{Row, inside-row, more, rows_more, rows-painted}
+use Rattle.picture.proofs.Laws.{rows_more, rows-painted}
 use Rattle.compensation.specs.InnerKernel.{mixed_block}
 use Rattle.compensation.proofs.kernel.mix_block.Goals.{In-loop-r}
 use Rattle.compensation.proofs.kernel.mix_block.Goals as goal
 
--- the row of a turn lies within the block's place, and its taps in the source
-lies : (c : In-loop-r) → let a = c.args in Row a.b.stride a.b.x a.b.y a.b.w c.loop-r.r (length a.dst.now) × (c.loop-r.r * a.mix.stride + a.mix.stride ≤ a.b.h * a.mix.stride)
-lies c = (inside-row c.requires.0 c.loop-r-test.true, more c.args.mix.stride c.loop-r-test.true)
-
 pub loop-r-init : goal.loop-r-init
 unfolding rows
 loop-r-init c = (refl, refl)
-
-pub mix_row-requires : goal.mix_row-requires
-mix_row-requires c = (omega (arith, lies (goal.at.mix_row-requires c).In-loop-r), omega (arith, lies (goal.at.mix_row-requires c).In-loop-r))
 
 pub loop-r-preserved : goal.loop-r-preserved
 unfolding mixed_block

@@ -1,5 +1,5 @@
 -- `compensation::kernel::mix_row` meets its contract: one sample a turn.
-use mathlib.Core.Path.{◌≡◌, refl}
+use mathlib.Core.Path.{refl}
 use native.Mathlib.Omega.{arith}
 use lib.ListN.{length-set}
 use Rattle.picture.specs.InnerRows.{row}
@@ -17,8 +17,3 @@ loop-c-preserved c =
     let a = c.args in
     let l = c.loop-c in
     (simp length-set (omega arith), row_more a.dst.now a.to (mixed_row a.mix a.src.now a.from) l.c l.invariant.1 c.sample.ensures)
-
-pub returns : goal.returns
-returns c =
-    let e : c.loop-c.c ≡ c.args.n = omega arith in
-    rw (← e) c.loop-c.invariant.1

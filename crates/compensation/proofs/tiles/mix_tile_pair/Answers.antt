@@ -1,6 +1,5 @@
 -- `compensation::tiles::mix_tile_pair` meets its contract: a tile for each tap, mixed.
 use Prim.Native.Nat.{◌*◌}
-use native.Mathlib.Nat.{mul-le-mul_right}
 use native.Mathlib.Omega.{arith}
 use Rattle.compensation.proofs.Lanes.{mixed-tile}
 use Rattle.compensation.proofs.tiles.mix_tile_pair.Goals as goal
@@ -17,15 +16,3 @@ returns g c =
       mixed-tile a.mix a.rcb.now a.from 0 w h (omega arith) _ _ _ _ c.mix_lanes.ensures p.0 q.0 u.0 v.0,
       mixed-tile a.mix a.rcr.now a.from (w * h) w h (omega arith) _ _ _ _ c.mix_lanes.ensures p.1 q.1 u.1 v.1,
     )
-
-pub overflow_add-from : goal.overflow_add-from
-overflow_add-from g c = omega (arith, mul-le-mul_right c.args.mix.stride c.requires.0.down)
-
-pub overflow_add-from-2 : goal.overflow_add-from-2
-overflow_add-from-2 g c = omega (arith, mul-le-mul_right c.args.mix.stride c.requires.0.down)
-
-pub overflow_add-mix : goal.overflow_add-mix
-overflow_add-mix g c = omega (arith, mul-le-mul_right c.args.mix.stride c.requires.0.down)
-
-pub overflow_add-from-3 : goal.overflow_add-from-3
-overflow_add-from-3 g c = omega (arith, mul-le-mul_right c.args.mix.stride c.requires.0.down)

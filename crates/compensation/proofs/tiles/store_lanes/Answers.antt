@@ -39,3 +39,6 @@ returns g c =
 
 pub overflow_add-dst-in-loop-k-2 : goal.overflow_add-dst-in-loop-k-2
 overflow_add-dst-in-loop-k-2 g c = let p = goal.at.overflow_add-dst-in-loop-k-2 g c in omega (arith, lies g p.In-loop-k, start g p.Start)
+
+pub bounds-dst-to : goal.bounds-dst-to
+bounds-dst-to g c = let p = goal.at.bounds-dst-to g c in omega (arith, lies g p.In-loop-k, start g p.Start)

@@ -1,7 +1,6 @@
 -- `compensation::window::columns_of` meets its contract: one column a turn.
-use mathlib.Core.Path.{◌≡◌, refl}
+use mathlib.Core.Path.{refl}
 use native.Mathlib.Nat.{zero-add}
-use native.Mathlib.Omega.{arith}
 use lib.ListN.{replicate}
 use Rattle.picture.specs.InnerRows.{row}
 use Rattle.picture.proofs.Laws.{row_more}
@@ -18,8 +17,3 @@ loop-c-preserved c =
     let a = c.args in
     let l = c.loop-c in
     rw zero-add at (row_more (replicate 17 0) 0 (near_from a.width a.bx) l.c l.invariant c.near_of.ensures.0)
-
-pub returns : goal.returns
-returns c =
-    let e : c.loop-c.c ≡ 17 = omega arith in
-    rw (← e) c.loop-c.invariant

@@ -1,21 +1,12 @@
 -- `compensation::window::gather_beside` meets its contract: one row a turn, in two halves that lie apart.
-use mathlib.Core.Path.{◌≡◌, refl, ◌∙◌}
+use mathlib.Core.Path.{refl, ◌∙◌}
 use Prim.Native.Nat.{ℕ, ◌+◌, ◌-◌, ◌*◌}
 use native.Mathlib.Omega.{arith}
 use lib.ListN.{get_or}
 use Rattle.picture.specs.InnerRows.{run}
 use Rattle.compensation.specs.InnerKernel.{run_at, edge_at}
-use Rattle.compensation.proofs.Taps.{line-place}
-use Rattle.compensation.proofs.Wide.{wide-none, wide-more, wide-kept, wide-here, wide-there}
+use Rattle.compensation.proofs.Wide.{wide-more, wide-kept, wide-here, wide-there}
 use Rattle.compensation.proofs.window.gather_beside.Goals as goal
-
-pub loop-r-init : goal.loop-r-init
-loop-r-init c = (refl, wide-none _ _ _, wide-none _ _ _)
-
--- the line ends within the plane
-pub copy_run-requires : goal.copy_run-requires
-copy_run-requires c =
-    (omega arith, omega (arith, line-place {a = c.args.from + 16} c.args.plane.whole c.near_of.ensures.1 (omega arith)))
 
 pub loop-r-preserved : goal.loop-r-preserved
 unfolding run_at edge_at
@@ -42,8 +33,3 @@ loop-r-preserved c =
           (wide-kept copied.new.window rest w f (omega arith) (omega arith) (wide-kept l.window at u e (omega arith) (omega arith) l.invariant.2))
           (λ k lk. wide-here copied.new.window rest w f (17 - a.to) l.r k refl (omega (arith, copied.auto.window)) lk ∙ (λ i. get_or a.plane.samples.now (line i * a.plane.size.width + a.edge) 0)),
     )
-
-pub returns : goal.returns
-returns c =
-    let e : c.loop-r.r ≡ c.args.h = omega arith in
-    record { wide = rw (← e) c.loop-r.invariant.1; wide_2 = rw (← e) c.loop-r.invariant.2 }

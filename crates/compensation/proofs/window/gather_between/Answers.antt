@@ -1,19 +1,11 @@
 -- `compensation::window::gather_between` meets its contract: one row a turn.
-use mathlib.Core.Path.{◌≡◌, refl, ◌∙◌}
+use mathlib.Core.Path.{◌∙◌}
 use Prim.Native.Nat.{◌+◌, ◌*◌}
 use native.Mathlib.Omega.{arith}
 use Rattle.picture.specs.InnerRows.{run}
 use Rattle.compensation.specs.InnerKernel.{run_at}
-use Rattle.compensation.proofs.Taps.{line-place}
-use Rattle.compensation.proofs.Wide.{wide-none, wide-more, wide-kept, wide-here}
+use Rattle.compensation.proofs.Wide.{wide-more, wide-kept, wide-here}
 use Rattle.compensation.proofs.window.gather_between.Goals as goal
-
-pub loop-r-init : goal.loop-r-init
-loop-r-init c = (refl, wide-none _ 0 _)
-
-pub copy_run-requires : goal.copy_run-requires
-copy_run-requires c =
-    (omega arith, omega (arith, line-place {a = c.args.from + 16} c.args.plane.whole c.near_of.ensures.1 (omega arith)))
 
 pub loop-r-preserved : goal.loop-r-preserved
 unfolding run_at
@@ -29,8 +21,3 @@ loop-r-preserved c =
           (wide-kept l.window at u e (omega arith) (omega arith) l.invariant.1)
           (λ k lk. wide-here l.window at u e 0 l.r k (omega arith) (omega arith) lk ∙ (λ i. run a.plane.samples.now (line i * a.plane.size.width + a.from) k)),
     )
-
-pub returns : goal.returns
-returns c =
-    let e : c.loop-r.r ≡ c.args.h = omega arith in
-    rw (← e) c.loop-r.invariant.1
