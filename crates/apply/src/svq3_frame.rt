@@ -51,7 +51,7 @@ fn block_of(call: Call, grid: Grid, chroma: bool, i: usize) -> Block
 fn taps_in(vectors: &[i32], b: Block, size: Size, chroma: bool, i: usize) -> Taps
     requires width_nonzero { (0 < size.width) × (size.width ≤ 65536) × (0 < size.height) × (size.height ≤ 65536) × (i < 16) × (length vectors.now ≡ 32) }
     requires span { Span b.w b.h × (b.x < 131072) × (b.y < 131072) }
-    ensures placed { Placed (pos b.x) (pos b.y) (toward_zero (vector_x vectors.now i) (unit chroma)) (toward_zero (vector_y vectors.now i) (unit chroma)) result.ox result.oy result.px result.py }
+    ensures placed { Placed (pos b.x) (pos b.y) (toward_zero (vector_x vectors.now i) (unit chroma)) (toward_zero (vector_y vectors.now i) (unit chroma)) result.ox result.oy result.phases.px result.phases.py }
     ensures taps_in { TapsIn size.width size.height b.w b.h result }
 {
     let vx = vector_over(chroma, vectors[2 * i]);

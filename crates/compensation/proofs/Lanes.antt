@@ -12,8 +12,15 @@ use Rattle.picture.specs.Painted.{Inside, painted}
 use Rattle.picture.specs.InnerRows.{row, rows}
 use Rattle.picture.proofs.Laws.{more, row_same, row_other, row_more, rows-painted, painted-values}
 use Rattle.compensation.specs.InnerKernel.{mixed_taps, mixed_at, mixed_row, mixed_block}
-use Rattle.compensation.specs.InnerLanes.{lane_of, lane_at, tiled, taken_at, Holds, mixed_lane}
-use Rattle.compensation.specs.declared.kernel.Mix.{Mix}
+use Rattle.compensation.specs.InnerLanes.{Tile, lane_of, lane_at, tiled, taken_at, Holds, mixed_lane}
+use Rattle.compensation.specs.declared.mix.Mix.{Mix}
+
+-- ---- sixteen lanes have room for two tiles of eight
+pub roomier : {w h : ℕ} → Tile w h 8 → Tile w h 16
+roomier t = record { across = t.across; down = t.down; room = omega (arith, t.room) }
+
+pub two : {w h : ℕ} → Tile w h 8 → w * h + w * h ≤ 16
+two t = omega (arith, t.room)
 
 -- ---- lane k of a tile of w columns: row k / w, column k % w
 module _ {w : ℕ} (some : 0 < w) where
@@ -84,26 +91,21 @@ kept t at w h n v f e apart holds r c lr lc =
     rw e (row_other t at v n (0 + (r * w + c)) 0 (λ k lk. let m = tile-lane w h r c lr lc in omega arith) ∙ holds r c lr lc)
 
 -- ---- lanes that were mixed
-module _ (m : Mix) (src : List ℕ) (stride from at w h : ℕ) (room : at + w * h ≤ 16) where
+module _ (m : Mix) (src : List ℕ) (from at w h : ℕ) (room : at + w * h ≤ 16) where
   pub mixed-tile : {t : List ℕ} (a b c d : List ℕ) → t ≡ row (replicate 16 0) 0 (mixed_lane m a b c d) 16
-      → Holds a at w h (taken_at src stride from) → Holds b at w h (taken_at src stride (from + m.beside))
-      → Holds c at w h (taken_at src stride (from + m.second)) → Holds d at w h (taken_at src stride (from + (m.beside + m.second)))
-      → Holds t at w h (mixed_block m src stride from)
+      → Holds a at w h (taken_at src m.stride from) → Holds b at w h (taken_at src m.stride (from + m.beside))
+      → Holds c at w h (taken_at src m.stride (from + m.second)) → Holds d at w h (taken_at src m.stride (from + (m.beside + m.second)))
+      → Holds t at w h (mixed_block m src from)
   unfolding Holds tiled taken_at mixed_block mixed_row mixed_at mixed_lane
   mixed-tile {t} a b c d e ha hb hc hd r k lr lk =
       let i = at + (r * w + k) in
       let lane : get_or t i 0 ≡ mixed_lane m a b c d i = rw e (rw zero-add at (row_same (replicate 16 0) 0 (mixed_lane m a b c d) 16 i 0 (omega (arith, tile-lane w h r k lr lk)) (omega arith))) in
-      let on : (n : ℕ) → get_or src (from + n + r * stride + k) 0 ≡ get_or src (from + r * stride + k + n) 0 = λ n. let q : from + n + r * stride + k ≡ from + r * stride + k + n = omega arith in ap (λ j. get_or src j 0) q in
+      let on : (n : ℕ) → get_or src (from + n + r * m.stride + k) 0 ≡ get_or src (from + r * m.stride + k + n) 0 = λ n. let q : from + n + r * m.stride + k ≡ from + r * m.stride + k + n = omega arith in ap (λ j. get_or src j 0) q in
       let pa = ha r k lr lk in
       let pb = hb r k lr lk ∙ on m.beside in
       let pc = hc r k lr lk ∙ on m.second in
       let pd = hd r k lr lk ∙ on (m.beside + m.second) in
       lane ∙ (λ j. mixed_taps m (pa j) (pb j) (pc j) (pd j))
-
--- ---- a block that is one tile
-pub tile-whole : {l' : List ℕ} (l t : List ℕ) (s x y at w h : ℕ) (value : ℕ → ℕ → ℕ) → Holds t at w h value → l' ≡ painted s x y w h (tiled t at w) l → l' ≡ painted s x y w h value l
-unfolding Holds
-tile-whole l t s x y at w h value holds stored = stored ∙ painted-values s x y w h (tiled t at w) value l holds
 
 -- ---- blocks one below the other
 inside-rows : {s x y w h size : ℕ} (r t : ℕ) → Inside s x y w h size → r + t ≤ h → Inside s x (y + r) w t size
@@ -111,9 +113,16 @@ inside-rows {s} {x} {y} {w} {h} r t i le =
     let d : (y + r + t) * s ≤ (y + h) * s = mul-le-mul_right s (omega arith) in
     record { some = i.some; across = i.across; down = le_trans d i.down }
 
--- a turn of a loop by tiles of t rows: how far its rows lie, and that its tile lies in the plane
-pub tile-turn : {s x y w h size n : ℕ} (r t stride : ℕ) → Inside s x y w h size → n ≡ size → r + t ≤ h → (r * stride + t * stride ≤ h * stride) × (y + r ≤ size) × Inside s x (y + r) w t n
-tile-turn {s} {x} {y} {w} {h} r t stride i e le = (rw (add-mul r t stride) at (mul-le-mul_right stride le), omega (arith, i.down, le-mul_of_pos_right (y + h) i.some), rw e (inside-rows r t i le))
+-- turn i of a loop by tiles of t rows: how far its rows lie, and that its tile lies in the plane
+pub tile-turn : {s x y w h size n i : ℕ} (t stride : ℕ) → Inside s x y w h size → n ≡ size → i < h / t → (i * t * stride + t * stride ≤ h * stride) × (y + i * t ≤ size) × Inside s x (y + i * t) w t n
+tile-turn {s} {x} {y} {w} {h} {size} {n} {i} t stride inside e l =
+    let r = i * t in
+    let le : r + t ≤ h = omega (arith, more t l, div-add-mod' h t) in
+    (rw (add-mul r t stride) at (mul-le-mul_right stride le), omega (arith, inside.down, le-mul_of_pos_right (y + h) inside.some), rw e (inside-rows r t inside le))
+
+-- all turns are all rows
+pub turns-all : {h i : ℕ} (t : ℕ) → i ≤ h / t → h / t ≤ i → h % t ≡ 0 → i * t ≡ h
+turns-all {h} {i} t most least whole = let e : i ≡ h / t = omega arith in rw e (omega (arith, div-add-mod' h t))
 
 rows_on : (l : List ℕ) (s x y : ℕ) (v : ℕ → ℕ → ℕ) (w r t : ℕ) → rows (rows l s x y v w r) s x (y + r) (λ i. v (r + i)) w t ≡ rows l s x y v w (r + t)
 unfolding rows
@@ -121,16 +130,19 @@ rows_on l s x y v w r zero = rw (add-zero r)
 rows_on l s x y v w r (suc t) = rw (add-suc r t) (rw (add_assoc y r t) (ap (λ (m : List ℕ). row m ((y + (r + t)) * s + x) (v (r + t)) w) (rows_on l s x y v w r t)))
 
 -- a turn of a loop that stores a tile
-pub tile-more : {l l' : List ℕ} (l₀ t : List ℕ) (s x y : ℕ) (m : Mix) (src : List ℕ) (stride from at w h r : ℕ)
-    → l ≡ rows l₀ s x y (mixed_block m src stride from) w r → Holds t at w h (mixed_block m src stride (from + r * stride))
-    → l' ≡ painted s x (y + r) w h (tiled t at w) l → Inside s x (y + r) w h (length l)
-    → l' ≡ rows l₀ s x y (mixed_block m src stride from) w (r + h)
+pub tile-more : {l l' : List ℕ} (l₀ t : List ℕ) (s x y : ℕ) (m : Mix) (src : List ℕ) (from at w h i : ℕ)
+    → l ≡ rows l₀ s x y (mixed_block m src from) w (i * h) → Holds t at w h (mixed_block m src (from + i * h * m.stride))
+    → l' ≡ painted s x (y + i * h) w h (tiled t at w) l → Inside s x (y + i * h) w h (length l)
+    → l' ≡ rows l₀ s x y (mixed_block m src from) w ((i + 1) * h)
 unfolding Holds mixed_block
-tile-more {l} l₀ t s x y m src stride from at w h r e holds stored i =
-    let v = mixed_block m src stride from in
-    let on : (k : ℕ) → from + r * stride + k * stride ≡ from + (r + k) * stride = λ k. omega (arith, add-mul r k stride) in
+tile-more {l} l₀ t s x y m src from at w h i e holds stored inside =
+    let r = i * h in
+    let v = mixed_block m src from in
+    let on : (k : ℕ) → from + r * m.stride + k * m.stride ≡ from + (r + k) * m.stride = λ k. omega (arith, add-mul r k m.stride) in
+    let next : r + h ≡ (i + 1) * h = omega (arith, add-mul i 1 h) in
     stored
     ∙ painted-values s x (y + r) w h (tiled t at w) (λ k. v (r + k)) l (λ k c lk lc. holds k c lk lc ∙ ap (λ (j : ℕ). mixed_row m src j c) (on k))
-    ∙ sym (rows-painted 0 l (λ k. v (r + k)) i)
+    ∙ sym (rows-painted 0 l (λ k. v (r + k)) inside)
     ∙ ap (λ (k : List ℕ). rows k s x (y + r) (λ j. v (r + j)) w h) e
     ∙ rows_on l₀ s x y v w r h
+    ∙ ap (λ n. rows l₀ s x y v w n) next

@@ -2,6 +2,7 @@
 pub mod Mixes
 pub mod Lanes
 pub mod Taps
+pub mod Runs
 pub mod Wide
 pub mod Split
 pub mod Sides

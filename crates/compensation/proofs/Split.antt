@@ -1,7 +1,7 @@
 -- A vector raised by a multiple of six, so that it is not below 0: its quotient and remainder are those of rounding down. And a block's place moved by the quotient.
 -- Assumes nothing.
 use mathlib.Core.Path.{◌≡◌, sym, ap, ◌∙◌}
-use Prim.Native.Nat.{ℕ, ◌*◌, ◌-◌, ◌/◌, ◌%◌, ◌≤◌, ◌<◌}
+use Prim.Native.Nat.{ℕ, ◌*◌, ◌/◌, ◌%◌, ◌≤◌, ◌<◌}
 use native.Mathlib.Omega.{arith}
 use lib.Dec.{T}
 use lib.IntN.{ℤ, pos, nat_abs, ◌+ℤ◌, ◌-ℤ◌, +ℤ_comm}
@@ -38,11 +38,9 @@ module _ {v z : ℤ} (k : ℕ) (enough : 2147483648 ≤ 6 * k) (small : SFits w3
       let e : pos (n / 6) ≡ pos k +ℤ floor_z v 6 = ap (λ x. floor_z x 6) raised ∙ (floor-shift 6 (pos k) v (omega arith)).0 in
       ap (λ x. x -ℤ pos k) p ∙ omega (arith, z-rules, e, add-z (pos k) (floor_z v 6), diff-z (pos (n / 6)) (pos k))
 
-  pub raised-phase : n - 6 * (n / 6) ≡ mod_z v 6
+  pub raised-phase : n % 6 ≡ mod_z v 6
   unfolding mod_z
-  raised-phase =
-      let e : n % 6 ≡ mod_z v 6 = ap (λ x. mod_z x 6) raised ∙ (floor-shift 6 (pos k) v (omega arith)).1 in
-      omega arith
+  raised-phase = ap (λ x. mod_z x 6) raised ∙ (floor-shift 6 (pos k) v (omega arith)).1
 
 -- two numbers of 32 bits, added in 64
 module _ (x z : ℤ) (p : SFits w32 x) (q : SFits w32 z) where

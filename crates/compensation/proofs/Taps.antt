@@ -14,6 +14,8 @@ use lib.ListN.{length, get_or, replicate}
 use Rattle.picture.specs.Painted.{painted}
 use Rattle.picture.specs.InnerRows.{row}
 use Rattle.picture.proofs.Laws.{more, row_same, painted-values, both_true}
+use Rattle.std.specs.Int.{int_max, int_min}
+use Rattle.std.proofs.lemmas.Int.{int_max_is, int_min_is}
 use Rattle.ints.specs.Z.{when◌then◌else◌, clamp_z, floor_z, mod_z}
 use mir.Syntax.{w64}
 use mir.Facts.{to_z-of_z}
@@ -57,6 +59,16 @@ module _ (n : ℕ) where
       (λ e. omega (arith, z-rules))
       (λ e f. absurd (omega (arith, z-rules)))
       (λ e f. omega (arith, z-rules, abs-z (negsuc a +ℤ pos 17), add-z (negsuc a) (pos 17), mag-z (negsuc a +ℤ pos 17)))
+
+  -- held by the library's methods
+  pub held-std : (z : ℤ) → int_max (negsuc 16) (int_min z (pos (n - 1))) ≡ clamp_z (negsuc 16) (pos (n - 1)) z
+  held-std z =
+      let lo = negsuc 16 in
+      let hi = pos (n - 1) in
+      clamp-ind (λ v. int_max lo (int_min z hi) ≡ v) lo hi z
+      (λ e. omega (arith, z-rules, int_max_is lo (int_min z hi), int_min_is z hi))
+      (λ e f. omega (arith, z-rules, int_max_is lo (int_min z hi), int_min_is z hi))
+      (λ e f. omega (arith, z-rules, int_max_is lo (int_min z hi), int_min_is z hi))
 
   -- it is never below 0
   pub origin-back : (z : ℤ) → clamp_z (negsuc 16) (pos (n - 1)) z +ℤ pos 17 ≡ pos (origin_of n z)
@@ -238,7 +250,7 @@ module _ (o : ℤ) (n side : ℕ) (small : side ≤ 65536) (e : lies_in o n side
 -- ---- a block that says that its taps lie inside
 module _ {width height w h size : ℕ} (t : Taps) (full : Whole width height size) (s : Span w h) (p : TapsIn width height w h t) (e : t.inside ≡ true) where
   abbrev more-taps : ℕ
-  more-taps = extra t.px t.py
+  more-taps = extra t.phases.px t.phases.py
 
   abbrev column : ℕ
   column = nat_abs (read w64 t.ox)
@@ -269,7 +281,7 @@ module _ {width height w h size : ℕ} (t : Taps) (full : Whole width height siz
   taps-room plane whole is = rw is (inside-room plane width height column line w h more-taps whole s.down.0 taps-line.1 taps-column.1)
 
   pub taps-block : (plane : List ℕ) {by : ℕ} → by ≡ width → (stride dx dy : ℕ) (l : List ℕ)
-      → painted stride dx dy w h (four_block (formula t.px t.py) plane by (line * width + column)) l ≡ painted stride dx dy w h (window_block (formula t.px t.py) plane width height (origin_of width t.ox) (origin_of height t.oy)) l
+      → painted stride dx dy w h (four_block (formula t.phases.px t.phases.py) plane by (line * width + column)) l ≡ painted stride dx dy w h (window_block (formula t.phases.px t.phases.py) plane width height (origin_of width t.ox) (origin_of height t.oy)) l
   taps-block plane is stride dx dy l =
       painted-values stride dx dy w h _ _ l
-      (λ r c lr lc. rw (is, taps-column.2, taps-line.2) (inside-sample plane width height column line t.px t.py r c w h taps-line.1 taps-column.1 lr lc))
+      (λ r c lr lc. rw (is, taps-column.2, taps-line.2) (inside-sample plane width height column line t.phases.px t.phases.py r c w h taps-line.1 taps-column.1 lr lc))

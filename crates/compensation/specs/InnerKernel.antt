@@ -1,11 +1,11 @@
 -- What the sample loops compute, for the contracts of inner functions: proofs/Mixes.antt and proofs/Taps.antt tie it to `formula` and to the endless plane.
 -- The rows of a source are `stride` apart; the taps of place i are i, i + u, i + v and i + u + v.
 -- Assumes nothing.
-use Rattle.std.specs.Prelude.{◌≡◌, List, [], ◌∷◌, ℕ, ◌+◌, ◌-◌, ◌*◌, ◌/◌, ◌%◌, ◌^◌, ◌≤◌, ◌<◌, min, ◌&&◌, eqb, ℤ, pos, negsuc, nat_abs, ◌+ℤ◌, get_or}
+use Rattle.std.specs.Prelude.{◌≡◌, Bool, List, [], ◌∷◌, ℕ, ◌+◌, ◌-◌, ◌*◌, ◌/◌, ◌%◌, ◌^◌, ◌<◌, min, ◌&&◌, eqb, ℤ, pos, negsuc, nat_abs, ◌+ℤ◌, get_or}
 use Rattle.ints.specs.Z.{when◌then◌else◌, clamp_z}
 use Rattle.picture.specs.InnerRows.{run}
 use Rattle.compensation.specs.Formula.{formula}
-use Rattle.compensation.specs.declared.kernel.Mix.{Mix}
+use Rattle.compensation.specs.declared.mix.Mix.{Mix}
 
 -- four values weighed
 unfoldable pub weighed : ℕ → ℕ → ℕ → ℕ → ℕ → ℕ → ℕ → ℕ → ℕ
@@ -28,18 +28,8 @@ unfoldable pub mixed_row : Mix → List ℕ → ℕ → ℕ → ℕ
 mixed_row m src from c = mixed_at m src (from + c)
 
 -- at column c of row r of the block that starts at `from`
-unfoldable pub mixed_block : Mix → List ℕ → ℕ → ℕ → ℕ → ℕ → ℕ
-mixed_block m src stride from r = mixed_row m src (from + r * stride)
-
--- weights of the sum 12; means is 0 or 1
-pub record SumsTo12 (m : Mix) : Type 0 where
-  pub sum : m.wa + m.wb + m.wc + m.wd ≡ 12
-  pub means : m.means ≤ 1
-
--- such weights, of the four taps of a square: the last is one row below the first and one column to its right
-pub record FromSquare (below : ℕ) (m : Mix) : Type 0 where
-  pub weights : SumsTo12 m
-  pub reach : m.beside + m.second ≡ below + 1
+unfoldable pub mixed_block : Mix → List ℕ → ℕ → ℕ → ℕ → ℕ
+mixed_block m src from r = mixed_row m src (from + r * m.stride)
 
 -- how far a phase goes: 0 not at all, 1 a third of the way, 2 half of it, 3 two thirds
 unfoldable pub way : ℕ → ℕ
@@ -53,27 +43,25 @@ mixes = 0x008400660048000c ∷ 0x3243a24423340408 ∷ 0xc4223333a2440066 ∷ 0x4
 unfoldable pub mix_code : ℕ → ℕ → ℕ
 mix_code px py = get_or mixes (way py) 0 / 2 ^ (16 * way px) % 65536
 
--- the mix that a code says, by its four hexadecimal digits, the highest of which has 8 more for means; halfway down, the pairs are columns
-unfoldable pub mix_said : ℕ → ℕ → ℕ → Mix
-mix_said below py code =
-    record {
-      beside = when eqb py 3 then below else 1;
-      second = when eqb py 3 then 1 else below;
-      means = code / 32768;
-      wa = code % 16;
-      wb = code / 16 % 16;
-      wc = code / 256 % 16;
-      wd = code / 4096 % 8;
-    }
+-- m is the mix that a code says, by its four hexadecimal digits, the highest of which has 8 more for means; halfway down, the pairs are columns
+pub record MixSaid (stride : ℕ) (halfway : Bool) (code : ℕ) (m : Mix) : Type 0 where
+  pub rows : m.stride ≡ stride
+  pub beside : m.beside ≡ (when halfway then stride else 1)
+  pub second : m.second ≡ (when halfway then 1 else stride)
+  pub means : m.means ≡ code / 32768
+  pub wa : m.wa ≡ code % 16
+  pub wb : m.wb ≡ code / 16 % 16
+  pub wc : m.wc ≡ code / 256 % 16
+  pub wd : m.wd ≡ code / 4096 % 8
 
 -- a function of the four taps at place i
 unfoldable pub four_at : (ℕ → ℕ → ℕ → ℕ → ℕ) → List ℕ → ℕ → ℕ → ℕ → ℕ
 four_at f src u v i = f (get_or src i 0) (get_or src (i + u) 0) (get_or src (i + v) 0) (get_or src (i + u + v) 0)
 
 -- the mix of two phases
-pub record MixFor (px py below : ℕ) (m : Mix) : Type 0 where
-  pub square : FromSquare below m
-  pub is : (src : List ℕ) (i : ℕ) → mixed_at m src i ≡ four_at (formula px py) src 1 below i
+pub record MixFor (px py stride : ℕ) (m : Mix) : Type 0 where
+  pub rows : m.stride ≡ stride
+  pub is : (src : List ℕ) (i : ℕ) → mixed_at m src i ≡ four_at (formula px py) src 1 stride i
 
 -- at column c of the row that starts at `from`
 unfoldable pub four_row : (ℕ → ℕ → ℕ → ℕ → ℕ) → List ℕ → ℕ → ℕ → ℕ → ℕ → ℕ

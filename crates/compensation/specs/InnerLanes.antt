@@ -1,8 +1,14 @@
 -- A tile: at most sixteen samples of a block, row after row, in the lanes of a list.
 -- Assumes nothing.
-use Rattle.std.specs.Prelude.{◌≡◌, List, ℕ, ◌+◌, ◌*◌, ◌/◌, ◌%◌, ◌<◌, get_or}
+use Rattle.std.specs.Prelude.{◌≡◌, List, ℕ, ◌+◌, ◌*◌, ◌/◌, ◌%◌, ◌<◌, ◌≤◌, get_or}
 use Rattle.compensation.specs.InnerKernel.{mixed_taps}
-use Rattle.compensation.specs.declared.kernel.Mix.{Mix}
+use Rattle.compensation.specs.declared.mix.Mix.{Mix}
+
+-- the sizes of a tile that `lanes` lanes have room for
+pub record Tile (w h lanes : ℕ) : Type 0 where
+  pub across : 0 < w
+  pub down : 0 < h
+  pub room : w * h ≤ lanes
 
 -- where lane k of a tile of w columns lies, past the place of lane 0, in rows that are `stride` long
 unfoldable pub lane_of : ℕ → ℕ → ℕ → ℕ

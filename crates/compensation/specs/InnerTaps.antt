@@ -1,6 +1,6 @@
 -- What a block reads: its phases, the place of its first tap, and whether all taps lie inside the plane.
 -- Assumes nothing.
-use Rattle.std.specs.Prelude.{◌≡◌, Bool, ◌&&◌, List, ℕ, ◌+◌, ◌<◌, ℤ, pos, ◌+ℤ◌, ◌-ℤ◌}
+use Rattle.std.specs.Prelude.{◌≡◌, Bool, ◌&&◌, List, ℕ, ◌+◌, ℤ, pos, ◌+ℤ◌, ◌-ℤ◌}
 use Rattle.std.specs.Int.Signed.{le_z}
 use Rattle.ints.specs.Z.{floor_z, mod_z}
 use Rattle.picture.specs.declared.Size.{Size}
@@ -21,9 +21,8 @@ lies_in o n side = le_z (pos 0) o && le_z o (pos side -ℤ pos n)
 
 -- taps that a block of w by h can be read by
 pub record TapsIn (width height w h : ℕ) (t : Taps) : Type 0 where
-  pub phases : (t.px < 6) × (t.py < 6)
-  pub whether : t.inside ≡ (lies_in t.ox (w + extra t.px t.py) width && lies_in t.oy (h + extra t.px t.py) height)
+  pub whether : t.inside ≡ (lies_in t.ox (w + extra t.phases.px t.phases.py) width && lies_in t.oy (h + extra t.phases.px t.phases.py) height)
 
 -- the samples that taps say, from a plane of that size
 abbrev pub tapped : Size → Taps → List ℕ → ℕ → ℕ → ℕ
-tapped s t plane = window_block (formula t.px t.py) plane s.width s.height (origin_of s.width t.ox) (origin_of s.height t.oy)
+tapped s t plane = window_block (formula t.phases.px t.phases.py) plane s.width s.height (origin_of s.width t.ox) (origin_of s.height t.oy)

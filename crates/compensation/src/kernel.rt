@@ -1,36 +1,14 @@
 // The sample loops, row by row. The phase is chosen outside them, and every tap lies in the source: no branch and no clamp inside.
 ghost use Rattle.std.specs.Prelude.{◌≡◌, ◌+◌, ◌*◌, ◌-◌, ◌<◌, ◌≤◌, length, get_or};
-ghost use Rattle.ints.specs.Z.{when◌then◌else◌};
 ghost use Rattle.picture.specs.InnerBlock.{BlockIn, block_painted};
 ghost use Rattle.picture.specs.InnerRows.{row};
 ghost use Rattle.compensation.specs.Formula.{formula};
-ghost use Rattle.compensation.specs.InnerKernel.{weighed, raised, mixed_taps, mixed_row, mixed_block, SumsTo12, FromSquare, MixFor, way, mixes, mix_code, four_block, extra};
+ghost use Rattle.compensation.specs.InnerKernel.{weighed, raised, mixed_taps, mixed_row, mixed_block, MixFor, way, mixes, mix_code, four_block, extra};
 ghost use Rattle.compensation.specs.InnerBlock.{Span};
 
+use crate::mix::{Mix, Phases};
 use picture::Block;
 use picture::rows::store_row;
-
-// How a sample is mixed, whatever the phases: four taps weighed by weights of the sum 12.
-// The taps are two pairs: the sample's first tap with the one `beside` places on, and the two that lie `second` places on from these.
-// With `means` 1 and not 0, the taps of a pair have one weight and stand for their mean.
-#[derive(Clone, Copy)]
-pub struct Mix {
-    pub beside: usize,
-    pub second: usize,
-    pub means: u8,
-    pub wa: u16,
-    pub wb: u16,
-    pub wc: u16,
-    pub wd: u16,
-}
-
-// The sum never passes 3,066.
-fn weigh(a: u8, b: u8, c: u8, d: u8, wa: u16, wb: u16, wc: u16, wd: u16) -> u8
-    requires { wa + wb + wc + wd ≡ 12 }
-    ensures { result ≡ weighed wa wb wc wd a b c d }
-{
-    ((wa * (a as u16) + wb * (b as u16) + wc * (c as u16) + wd * (d as u16) + 6) / 12) as u8
-}
 
 // With m = 1: an even a beside an odd b gets 1 more. Of two taps of which just one is odd, each raised by the other, the even one gets it:
 // their sum is then even, and half of it is their mean, rounded up. With m = 0: a as it is.
@@ -41,49 +19,52 @@ fn raise(m: u8, a: u8, b: u8) -> u8
     a | (b & m)
 }
 
-pub fn mix_taps(mix: Mix, a: u8, b: u8, c: u8, d: u8) -> u8
-    requires { SumsTo12 mix }
-    ensures { result ≡ mixed_taps mix a b c d }
-{
-    let m = mix.means;
-    weigh(
-        raise(m, a, b),
-        raise(m, b, a),
-        raise(m, c, d),
-        raise(m, d, c),
-        mix.wa,
-        mix.wb,
-        mix.wc,
-        mix.wd,
-    )
+impl Mix {
+    // The sum never passes 3,066.
+    fn weigh(self, a: u8, b: u8, c: u8, d: u8) -> u8
+        ensures { result ≡ weighed self.wa self.wb self.wc self.wd a b c d }
+    {
+        let sum = self.wa * (a as u16)
+            + self.wb * (b as u16)
+            + self.wc * (c as u16)
+            + self.wd * (d as u16);
+        ((sum + 6) / 12) as u8
+    }
+
+    pub fn sample(self, a: u8, b: u8, c: u8, d: u8) -> u8
+        ensures { result ≡ mixed_taps self a b c d }
+    {
+        let m = self.means;
+        self.weigh(
+            raise(m, a, b),
+            raise(m, b, a),
+            raise(m, c, d),
+            raise(m, d, c),
+        )
+    }
 }
 
 fn mix_row(dst: &mut [u8], src: &[u8], to: usize, from: usize, n: usize, mix: Mix)
-    requires { SumsTo12 mix × (to + n ≤ length dst.old) × (from + n + (mix.beside + mix.second) ≤ length src.now) }
+    requires { (to + n ≤ length dst.old) × (from + n + (mix.beside + mix.second) ≤ length src.now) }
     ensures { dst.new ≡ row dst.old to (mixed_row mix src.now from) n }
 {
-    let mut c = 0;
-    while c < n {
+    for c in 0..n {
         let i = from + c;
         let beside = src[i + mix.beside];
         let second = src[i + mix.second];
         let last = src[i + (mix.beside + mix.second)];
-        dst[to + c] = mix_taps(mix, src[i], beside, second, last);
-        c += 1;
+        dst[to + c] = mix.sample(src[i], beside, second, last);
     }
 }
 
 // The block whose taps start at `from` of `src`.
-pub fn mix_block(dst: &mut [u8], src: &[u8], b: Block, stride: usize, from: usize, mix: Mix)
-    requires from_square { FromSquare stride mix }
-    requires block_in { BlockIn b (length dst.old) × (from + b.h * stride + b.w < length src.now) }
-    ensures { dst.new ≡ block_painted b (mixed_block mix src.now stride from) dst.old }
+pub fn mix_block(dst: &mut [u8], src: &[u8], b: Block, from: usize, mix: Mix)
+    requires { BlockIn b (length dst.old) × (from + b.h * mix.stride + b.w < length src.now) }
+    ensures { dst.new ≡ block_painted b (mixed_block mix src.now from) dst.old }
 {
-    let mut r = 0;
-    while r < b.h {
+    for r in 0..b.h {
         let to = (b.y + r) * b.stride + b.x;
-        mix_row(dst, src, to, from + r * stride, b.w, mix);
-        r += 1;
+        mix_row(dst, src, to, from + r * mix.stride, b.w, mix);
     }
 }
 
@@ -110,32 +91,25 @@ fn mixes_of(down: u32) -> u64
     }
 }
 
-fn mix_code(px: u32, py: u32) -> u32
-    requires { (px < 6) × (py < 6) }
-    ensures { result ≡ mix_code px py }
+fn mix_code(p: Phases) -> u32
+    ensures is { result ≡ mix_code p.px p.py }
+    ensures four_digits { result < 65536 }
 {
-    let shift = 16 * way_of(px);
-    ((mixes_of(way_of(py)) >> shift) % 65536) as u32
+    let shift = 16 * way_of(p.px);
+    ((mixes_of(way_of(p.py)) >> shift) % 65536) as u32
 }
 
-// A choice that needs no branch.
-fn pick(t: bool, a: usize, b: usize) -> usize
-    ensures { result ≡ (when t then a else b) }
-{
-    if t { a } else { b }
-}
-
-// The mix of two phases, for a source whose rows are `below` samples long. Halfway down, a pair is a tap and the one below it; else it is two
+// The mix of two phases, for a source whose rows are `stride` samples long. Halfway down, a pair is a tap and the one below it; else it is two
 // taps of a row.
-pub fn mix_of(px: u32, py: u32, below: usize) -> Mix
-    requires { (px < 6) × (py < 6) }
-    ensures { MixFor px py below result }
+pub fn mix_of(p: Phases, stride: usize) -> Mix
+    ensures { MixFor p.px p.py stride result }
 {
-    let code = mix_code(px, py);
-    let down = py == 3;
+    let code = mix_code(p);
+    let (beside, second) = if p.py == 3 { (stride, 1) } else { (1, stride) };
     Mix {
-        beside: pick(down, below, 1),
-        second: pick(down, 1, below),
+        stride,
+        beside,
+        second,
         means: (code / 32768) as u8,
         wa: (code % 16) as u16,
         wb: (code / 16 % 16) as u16,
@@ -145,15 +119,10 @@ pub fn mix_of(px: u32, py: u32, below: usize) -> Mix
 }
 
 // How many taps past its samples a block reads, each way.
-pub fn extra_of(px: u32, py: u32) -> usize
-    ensures { (result ≡ extra px py) × (result ≤ 1) }
+pub fn extra_of(p: Phases) -> usize
+    ensures { (result ≡ extra p.px p.py) × (result ≤ 1) }
 {
-    if px == 0 {
-        if py == 0 {
-            return 0;
-        }
-    }
-    1
+    if p.px == 0 && p.py == 0 { 0 } else { 1 }
 }
 
 // Whole samples: rows that are copied. The width is a number of its own, so that it can be a literal.
@@ -162,11 +131,9 @@ fn copy_rows(dst: &mut [u8], src: &[u8], b: Block, w: usize, stride: usize, from
     requires span { Span b.w b.h × BlockIn b (length dst.old) × (from + (b.h - 1) * stride + b.w ≤ length src.now) }
     ensures { dst.new ≡ block_painted b (four_block (formula 0 0) src.now stride from) dst.old }
 {
-    let mut r = 0;
-    while r < b.h {
+    for r in 0..b.h {
         let to = (b.y + r) * b.stride + b.x;
         store_row(dst, to, src, from + r * stride, w);
-        r += 1;
     }
 }
 
@@ -175,15 +142,11 @@ pub fn copy_by_width(dst: &mut [u8], src: &[u8], b: Block, stride: usize, from: 
     requires { Span b.w b.h × BlockIn b (length dst.old) × (from + (b.h - 1) * stride + b.w ≤ length src.now) }
     ensures { dst.new ≡ block_painted b (four_block (formula 0 0) src.now stride from) dst.old }
 {
-    if b.w == 16 {
-        copy_rows(dst, src, b, 16, stride, from);
-    } else if b.w == 8 {
-        copy_rows(dst, src, b, 8, stride, from);
-    } else if b.w == 4 {
-        copy_rows(dst, src, b, 4, stride, from);
-    } else if b.w == 2 {
-        copy_rows(dst, src, b, 2, stride, from);
-    } else {
-        copy_rows(dst, src, b, b.w, stride, from);
+    match b.w {
+        16 => copy_rows(dst, src, b, 16, stride, from),
+        8 => copy_rows(dst, src, b, 8, stride, from),
+        4 => copy_rows(dst, src, b, 4, stride, from),
+        2 => copy_rows(dst, src, b, 2, stride, from),
+        w => copy_rows(dst, src, b, w, stride, from),
     }
 }

@@ -8,9 +8,10 @@ ghost use Rattle.compensation.specs.InnerBlock.{Whole, Span};
 ghost use Rattle.compensation.specs.Block.{block_answer, block_out, halved};
 
 use crate::kernel::extra_of;
+use crate::mix::Phases;
+use crate::plane::Plane;
 use crate::tiles::{interpolate, interpolate_pair};
 use crate::window::{gather, origin};
-use ints::half_toward_zero;
 use picture::{Block, Size};
 use refusal::Refusal;
 use state::sides_fit;
@@ -19,25 +20,25 @@ use state::sides_fit;
 pub struct MvComponentSplit {
     pub whole: i64,
     pub phase: u32,
+    pub ghost sixths: { phase < 6 },
 }
 
 // Rounded down by one unsigned division: 6 · 357,913,942 is more than any vector is below 0.
+// `div_euclid` and `rem_euclid` branch on the sign, which cannot be foreseen: blocks with drawn vectors took 8 % longer (86 ns, not 80).
 pub fn split_mv_component(v: i32) -> MvComponentSplit
     ensures { (result.whole ≡ floor_z v 6) × (result.phase ≡ mod_z v 6) }
 {
     let u = ((v as i64) + 2_147_483_652) as u64;
-    let q = u / 6;
     MvComponentSplit {
-        whole: (q as i64) - 357_913_942,
-        phase: (u - 6 * q) as u32,
+        whole: ((u / 6) as i64) - 357_913_942,
+        phase: (u % 6) as u32,
     }
 }
 
 // How a block reads its taps: the phases, where its first tap lies, and whether all lie inside the plane.
 #[derive(Clone, Copy)]
 pub struct Taps {
-    pub px: u32,
-    pub py: u32,
+    pub phases: Phases,
     pub ox: i64,
     pub oy: i64,
     pub inside: bool,
@@ -54,20 +55,21 @@ fn lies_in(first: i64, n: usize, side: usize) -> bool
 // The taps of the w × h block at (x, y) of a plane with the vector (vx, vy).
 pub fn taps_of(w: usize, h: usize, size: Size, x: i32, y: i32, vx: i32, vy: i32) -> Taps
     requires { Span w h × (0 < size.width) × (size.width ≤ 65536) × (0 < size.height) × (size.height ≤ 65536) }
-    ensures placed { Placed x y vx vy result.ox result.oy result.px result.py }
+    ensures placed { Placed x y vx vy result.ox result.oy result.phases.px result.phases.py }
     ensures taps_in { TapsIn size.width size.height w h result }
 {
     let sx = split_mv_component(vx);
     let sy = split_mv_component(vy);
-    let px = sx.phase;
-    let py = sy.phase;
+    let phases = Phases {
+        px: sx.phase,
+        py: sy.phase,
+    };
     let ox = (x as i64) + sx.whole;
     let oy = (y as i64) + sy.whole;
-    let e = extra_of(px, py);
+    let e = extra_of(phases);
     let inside = lies_in(ox, w + e, size.width) & lies_in(oy, h + e, size.height);
     Taps {
-        px,
-        py,
+        phases,
         ox,
         oy,
         inside,
@@ -75,16 +77,15 @@ pub fn taps_of(w: usize, h: usize, size: Size, x: i32, y: i32, vx: i32, vy: i32)
 }
 
 // A block some of whose taps lie past an edge.
-fn across_edge(dst: &mut [u8], plane: &[u8], b: Block, size: Size, t: Taps)
-    requires span { Span b.w b.h × BlockIn b (length dst.old) × (t.px < 6) × (t.py < 6) }
-    requires whole { Whole size.width size.height (length plane.now) }
-    ensures { dst.new ≡ block_painted b (tapped size t plane.now) dst.old }
+fn across_edge(dst: &mut [u8], plane: Plane, b: Block, t: Taps)
+    requires { Span b.w b.h × BlockIn b (length dst.old) }
+    ensures { dst.new ≡ block_painted b (tapped plane.entry.size t plane.entry.samples.now) dst.old }
 {
-    let bx = origin(t.ox, size.width);
-    let by = origin(t.oy, size.height);
+    let bx = origin(t.ox, plane.size.width);
+    let by = origin(t.oy, plane.size.height);
     let mut window = [0u8; 578];
-    let from = gather(&mut window, plane, size, bx, by, b.h + 1);
-    interpolate(dst, &window, b, 34, from, t.px, t.py);
+    let from = gather(&mut window, plane, bx, by, b.h + 1);
+    interpolate(dst, &window, b, 34, from, t.phases);
 }
 
 // A block by its taps.
@@ -94,9 +95,17 @@ pub fn compensate_taps(dst: &mut [u8], plane: &[u8], b: Block, size: Size, t: Ta
 {
     if t.inside {
         let from = (t.oy as usize) * size.width + (t.ox as usize);
-        interpolate(dst, plane, b, size.width, from, t.px, t.py);
+        interpolate(dst, plane, b, size.width, from, t.phases);
     } else {
-        across_edge(dst, plane, b, size, t);
+        across_edge(
+            dst,
+            Plane {
+                samples: plane,
+                size,
+            },
+            b,
+            t,
+        );
     }
 }
 
@@ -117,10 +126,10 @@ pub fn compensate_both(
 {
     if t.inside {
         let from = (t.oy as usize) * size.width + (t.ox as usize);
-        interpolate_pair(cb, cr, rcb, rcr, b, from, t.px, t.py);
+        interpolate_pair(cb, cr, rcb, rcr, b, from, t.phases);
     } else {
-        across_edge(cb, rcb, b, size, t);
-        across_edge(cr, rcr, b, size, t);
+        across_edge(cb, Plane { samples: rcb, size }, b, t);
+        across_edge(cr, Plane { samples: rcr, size }, b, t);
     }
 }
 
@@ -142,14 +151,7 @@ pub fn compensate_into(
     compensate_taps(dst, plane, b, size, t);
 }
 
-#[derive(Clone, Copy)]
-pub enum BlockAnswer {
-    // the output holds the block
-    Done,
-    Refused(Refusal),
-}
-
-// The compensated block alone: 2 for the plane, 5 for the spans or the output's length; else `out` is the block.
+// The compensated block alone: `StateLength` for the plane, `CallRange` for the spans or the output's length; else `out` is the block.
 pub fn motion_compensate_block(
     out: &mut [u8],
     plane: &[u8],
@@ -161,26 +163,26 @@ pub fn motion_compensate_block(
     h: usize,
     vx: i32,
     vy: i32,
-) -> BlockAnswer
+) -> Result<(), Refusal>
     ensures value { result ≡ block_answer (length plane.now) width height w h (length out.old) }
     ensures out_after { out.new ≡ block_out out.old plane.now width height x y w h vx vy }
 {
-    if sides_fit(65536, width, height, plane.len()) {
-        if sides_fit(16, w, h, out.len()) {
-            let whole = Block {
-                stride: w,
-                x: 0,
-                y: 0,
-                w,
-                h,
-            };
-            let size = Size { width, height };
-            compensate_into(out, plane, whole, size, x, y, vx, vy);
-            return BlockAnswer::Done;
-        }
-        return BlockAnswer::Refused(Refusal::CallRange);
+    if !sides_fit(65536, width, height, plane.len()) {
+        return Err(Refusal::StateLength);
     }
-    BlockAnswer::Refused(Refusal::StateLength)
+    if !sides_fit(16, w, h, out.len()) {
+        return Err(Refusal::CallRange);
+    }
+    let whole = Block {
+        stride: w,
+        x: 0,
+        y: 0,
+        w,
+        h,
+    };
+    let size = Size { width, height };
+    compensate_into(out, plane, whole, size, x, y, vx, vy);
+    Ok(())
 }
 
 // The chroma block of a luma block: place, spans and vector halved toward zero.
@@ -195,13 +197,20 @@ pub fn motion_compensate_chroma_block(
     h: usize,
     vx: i32,
     vy: i32,
-) -> BlockAnswer
+) -> Result<(), Refusal>
     ensures value { result ≡ block_answer (length plane.now) width height (w / 2) (h / 2) (length out.old) }
     ensures out_after { out.new ≡ block_out out.old plane.now width height (halved x) (halved y) (w / 2) (h / 2) (halved vx) (halved vy) }
 {
-    let hx = half_toward_zero(x);
-    let hy = half_toward_zero(y);
-    let hvx = half_toward_zero(vx);
-    let hvy = half_toward_zero(vy);
-    motion_compensate_block(out, plane, width, height, hx, hy, w / 2, h / 2, hvx, hvy)
+    motion_compensate_block(
+        out,
+        plane,
+        width,
+        height,
+        x / 2,
+        y / 2,
+        w / 2,
+        h / 2,
+        vx / 2,
+        vy / 2,
+    )
 }

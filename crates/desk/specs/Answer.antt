@@ -1,10 +1,8 @@
 -- The number that each entry returns: 0 or a count where the work is done, else minus the refusal's number.
 -- Assumes nothing.
-use Rattle.std.specs.Prelude.{ℤ, pos, neg_ℤ}
+use Rattle.std.specs.Prelude.{ℤ, pos, neg_ℤ, Result, Ok, Err}
 use Rattle.refusal.specs.Refusal.{number_of}
 use Rattle.refusal.specs.declared.Refusal.{Refusal}
-use Rattle.compensation.specs.declared.svq3_mc.BlockAnswer.{BlockAnswer}
-use Rattle.compensation.specs.declared.svq3_mc.BlockAnswer.TheVariants as block
 use Rattle.transcript.specs.declared.check.CheckAnswer.{CheckAnswer}
 use Rattle.transcript.specs.declared.check.CheckAnswer.TheVariants as check
 use Rattle.macroblock.specs.declared.MbAnswer.{MbAnswer}
@@ -22,9 +20,9 @@ refusal_code why = neg_ℤ (pos (number_of why))
 abbrev pub output_room : ℤ
 output_room = neg_ℤ (pos 18)
 
-abbrev pub block_code : BlockAnswer → ℤ
-block_code block.Done = pos 0
-block_code (block.Refused why) = refusal_code why
+abbrev pub block_code : Result (Unit {0}) Refusal → ℤ
+block_code (Ok tt) = pos 0
+block_code (Err why) = refusal_code why
 
 -- the number of records
 abbrev pub check_code : CheckAnswer → ℤ

@@ -10,7 +10,7 @@ ghost use Rattle.desk.specs.Entries.{slices_of, slices_before, slices_after, end
 
 use crate::given::frame_of;
 use crate::told::{refused, tell_macroblock, tell_replay, tell_run};
-use compensation::svq3_mc::{BlockAnswer, motion_compensate_block};
+use compensation::svq3_mc::motion_compensate_block;
 use macroblock::svq3_frame::decode_inter_mb;
 use replay::replay::replay;
 use run::run::run;
@@ -188,8 +188,8 @@ pub fn svq3_compensate_block(
         vy,
     );
     match answer {
-        BlockAnswer::Done => 0,
-        BlockAnswer::Refused(why) => refused(why),
+        Ok(()) => 0,
+        Err(why) => refused(why),
     }
 }
 

@@ -1,9 +1,15 @@
 // The compensated blocks, kinds 17 and 18.
 use crate::Plane;
 use crate::bytes::{signed_at, wide};
-use compensation::svq3_mc::{BlockAnswer, motion_compensate_block, motion_compensate_chroma_block};
+use compensation::svq3_mc::{motion_compensate_block, motion_compensate_chroma_block};
+use refusal::Refusal;
 
-fn compensate(out: &mut [u8], samples: &[u8], plane: Plane, head: &[u8; 32]) -> BlockAnswer {
+fn compensate(
+    out: &mut [u8],
+    samples: &[u8],
+    plane: Plane,
+    head: &[u8; 32],
+) -> Result<(), Refusal> {
     let w = wide(head[2]) as usize;
     let h = wide(head[3]) as usize;
     let x = signed_at(head, 8);
@@ -24,10 +30,7 @@ fn same_block(
     head: &[u8; 32],
     answered: &[u8],
 ) -> bool {
-    match compensate(out, samples, plane, head) {
-        BlockAnswer::Done => check::same(out, answered),
-        BlockAnswer::Refused(_) => false,
-    }
+    compensate(out, samples, plane, head).is_ok() && check::same(out, answered)
 }
 
 // Whether the block is the one answered.

@@ -1,33 +1,24 @@
 -- `compensation::kernel::mix_block` meets its contract: one row a turn.
 use mathlib.Core.Path.{◌≡◌, refl, ◌∙◌}
-use Prim.Native.Nat.{◌≤◌, ◌+◌, ◌*◌}
 use native.Mathlib.Omega.{arith}
-use lib.ListN.{length}
 use Rattle.picture.specs.InnerRows.{rows}
-use Rattle.picture.proofs.Laws.{Row, inside-row, more, rows_more, rows-painted}
+use Rattle.picture.proofs.Laws.{rows_more, rows-painted}
 use Rattle.compensation.specs.InnerKernel.{mixed_block}
 use Rattle.compensation.proofs.kernel.mix_block.Goals.{In-loop-r}
 use Rattle.compensation.proofs.kernel.mix_block.Goals as goal
 
--- the row of a turn lies within the block's place, and its taps in the source
-lies : (c : In-loop-r) → let a = c.args in Row a.b.stride a.b.x a.b.y a.b.w c.loop-r.r (length a.dst.now) × (c.loop-r.r * a.stride + a.stride ≤ a.b.h * a.stride)
-lies c = (inside-row c.requires.block_in.0 c.loop-r-test.true, more c.args.stride c.loop-r-test.true)
-
 pub loop-r-init : goal.loop-r-init
 unfolding rows
-loop-r-init c = (omega arith, refl, refl)
-
-pub mix_row-requires : goal.mix_row-requires
-mix_row-requires c = (c.requires.from_square.weights, omega (arith, lies (goal.at.mix_row-requires c).In-loop-r), omega (arith, lies (goal.at.mix_row-requires c).In-loop-r))
+loop-r-init c = (refl, refl)
 
 pub loop-r-preserved : goal.loop-r-preserved
 unfolding mixed_block
 loop-r-preserved c =
     let a = c.args in
     let l = c.loop-r in
-    (omega arith, omega (arith, c.mix_row.auto.dst), rows_more a.dst.now a.b.stride a.b.x a.b.y (mixed_block a.mix a.src.now a.stride a.from) a.b.w l.r l.invariant.2 c.mix_row.ensures)
+    (omega (arith, c.mix_row.auto.dst), rows_more a.dst.now a.b.stride a.b.x a.b.y (mixed_block a.mix a.src.now a.from) a.b.w l.r l.invariant.1 c.mix_row.ensures)
 
 pub returns : goal.returns
 returns c =
     let e : c.loop-r.r ≡ c.args.b.h = omega arith in
-    c.loop-r.invariant.2 ∙ rw e (rows-painted 0 _ _ c.requires.block_in.0)
+    c.loop-r.invariant.1 ∙ rw e (rows-painted 0 _ _ c.requires.0)

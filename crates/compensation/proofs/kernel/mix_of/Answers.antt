@@ -1,26 +1,33 @@
 -- `compensation::kernel::mix_of` meets its contract: it answers what the code says.
+use mathlib.Core.Path.{refl, ap}
 use Prim.Native.Nat.{◌/◌, ◌%◌}
 use native.Mathlib.Omega.{arith}
-use Rattle.compensation.specs.InnerKernel.{mix_code, mix_said}
-use Rattle.compensation.proofs.Mixes.{said-so}
+use borrow.Author.Tests.{ne_eqb}
+use Rattle.ints.specs.Z.{when◌then◌else◌}
+use Rattle.compensation.proofs.Mixes.{said-for, twelfths-for}
+use Rattle.compensation.proofs.kernel.mix_of.Goals.{then-p-eq3, else-p-eq3}
 use Rattle.compensation.proofs.kernel.mix_of.Goals as goal
 
-pub overflow_cast-result : goal.overflow_cast-result
-unfolding mix_code
-overflow_cast-result c = omega (arith, c.mix_code-code.ensures)
+pub invariant_of-result-clause-square : goal.invariant_of-result-clause-square
+invariant_of-result-clause-square c =
+    elim c.if-p-eq3.branch [ then-p-eq3 w ↦ rw w.beside-is refl | else-p-eq3 w ↦ rw w.beside-is (omega arith) ]
+
+pub invariant_of-result-clause-twelfths : goal.invariant_of-result-clause-twelfths
+invariant_of-result-clause-twelfths c = rw c.mix_code-code.ensures.is (twelfths-for c.args.p.px c.args.p.across c.args.p.py c.args.p.down)
 
 pub returns : goal.returns
-unfolding mix_said
+unfolding when◌then◌else◌
 returns c =
     let a = c.args in
-    let code = c.mix_code-code.result in
-    said-so a.below a.px a.py {code = code} c.requires.0 c.requires.1 c.mix_code-code.ensures
-    (λ i. record {
-      beside = c.pick.ensures i;
-      second = c.pick-2.ensures i;
-      means = code / 32768;
-      wa = code % 16;
-      wb = code / 16 % 16;
-      wc = code / 256 % 16;
-      wd = code / 4096 % 8;
+    let e = c.mix_code-code.ensures.is in
+    said-for a.stride a.p.px c.args.p.across a.p.py c.args.p.down _
+    (record {
+      rows = refl;
+      beside = elim c.if-p-eq3.branch [ then-p-eq3 w ↦ rw (w.beside-is, w.if-p-eq3.true) refl | else-p-eq3 w ↦ rw (w.beside-is, ne_eqb a.p.py 3 w.if-p-eq3.false) refl ];
+      second = elim c.if-p-eq3.branch [ then-p-eq3 w ↦ rw (w.beside-is, w.if-p-eq3.true) refl | else-p-eq3 w ↦ rw (w.beside-is, ne_eqb a.p.py 3 w.if-p-eq3.false) refl ];
+      means = ap (λ n. n / 32768) e;
+      wa = ap (λ n. n % 16) e;
+      wb = ap (λ n. n / 16 % 16) e;
+      wc = ap (λ n. n / 256 % 16) e;
+      wd = ap (λ n. n / 4096 % 8) e;
     })

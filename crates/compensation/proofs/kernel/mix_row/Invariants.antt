@@ -1,13 +1,9 @@
 -- `compensation::kernel::mix_row` meets its contract: one sample a turn.
 use mathlib.Core.Path.{◌≡◌}
-use Prim.Native.Nat.{◌≤◌, ◌-◌}
 use lib.ListN.{length}
 use Rattle.picture.specs.InnerRows.{row}
 use Rattle.compensation.specs.InnerKernel.{mixed_row}
 use Rattle.compensation.proofs.kernel.mix_row.Given as goal
 
 abbrev pub invariant-loop-c : goal.invariant-loop-c
-invariant-loop-c l = (l.c ≤ l.n) × (length l.dst ≡ length l.initial.dst) × (l.dst ≡ row l.initial.dst l.to (mixed_row l.mix l.src l.from) l.c)
-
-abbrev pub decreases-loop-c : goal.decreases-loop-c
-decreases-loop-c l = l.n - l.c
+invariant-loop-c l = (length l.dst ≡ length l.initial.dst) × (l.dst ≡ row l.initial.dst l.to (mixed_row l.mix l.src l.from) l.c)

@@ -13,34 +13,33 @@ use Rattle.compensation.proofs.svq3_mc.across_edge.Goals.{After-origin-by}
 use Rattle.compensation.proofs.svq3_mc.across_edge.Goals as goal
 
 -- the place, held
-held : (c : After-origin-by) → let a = c.args in (c.origin-bx.result ≡ origin_of a.size.width a.t.ox) × (c.origin-by.result ≡ origin_of a.size.height a.t.oy)
+held : (c : After-origin-by) → let a = c.args in (c.origin-bx.result ≡ origin_of a.plane.size.width a.t.ox) × (c.origin-by.result ≡ origin_of a.plane.size.height a.t.oy)
 held c =
     let a = c.args in
-    let told = c.struct_told-1.given in
-    let x = to_z-of_z {w = w64} {z = a.t.ox} (record { sfits = told.1.1.0.1 }) in
-    let y = to_z-of_z {w = w64} {z = a.t.oy} (record { sfits = told.1.1.1.0.1 }) in
-    (c.origin-bx.ensures ∙ ap (origin_of a.size.width) x, c.origin-by.ensures ∙ ap (origin_of a.size.height) y)
+    let x = to_z-of_z {w = w64} {z = a.t.ox} (record { sfits = omega arith }) in
+    let y = to_z-of_z {w = w64} {z = a.t.oy} (record { sfits = omega arith }) in
+    (c.origin-bx.ensures ∙ ap (origin_of a.plane.size.width) x, c.origin-by.ensures ∙ ap (origin_of a.plane.size.height) y)
 
 -- no further than the last column and row
-near : (c : After-origin-by) → let a = c.args in (c.origin-bx.result ≤ a.size.width + 16) × (c.origin-by.result ≤ a.size.height + 16)
+near : (c : After-origin-by) → let a = c.args in (c.origin-bx.result ≤ a.plane.size.width + 16) × (c.origin-by.result ≤ a.plane.size.height + 16)
 near c =
     let a = c.args in
-    (rw (held c).0 (origin-le a.size.width a.t.ox (omega arith)), rw (held c).1 (origin-le a.size.height a.t.oy (omega arith)))
+    (rw (held c).0 (origin-le a.plane.size.width a.t.ox (omega arith)), rw (held c).1 (origin-le a.plane.size.height a.t.oy (omega arith)))
 
 pub gather-from-requires : goal.gather-from-requires
 gather-from-requires c =
-    let n = near (goal.at.gather-from-requires c).After-origin-by in record { h_in_bounds = (omega arith, omega arith); whole = (c.requires.whole, n.0, n.1) }
+    let n = near (goal.at.gather-from-requires c).After-origin-by in record { h_in_bounds = (omega arith, omega arith); place = (n.0, n.1) }
 
 pub interpolate-requires : goal.interpolate-requires
 interpolate-requires c =
-    let p = c.requires.span in
+    let p = c.requires in
     let g = c.gather-from in
-    (p.0, p.1, p.2, p.3, omega (arith, extra-le c.args.t.px c.args.t.py, g.auto.window, g.ensures.0))
+    (p.0, p.1, omega (arith, extra-le c.args.t.phases.px c.args.t.phases.py, g.auto.window, g.ensures.0))
 
 pub returns : goal.returns
 returns c =
     let a = c.args in
     let g = c.gather-from in
     rw (← (held (goal.at.returns c).After-origin-by).0, ← (held (goal.at.returns c).After-origin-by).1)
-    (c.interpolate.ensures ∙ painted-values a.b.stride a.b.x a.b.y a.b.w a.b.h _ (window_block (formula a.t.px a.t.py) a.plane.now a.size.width a.size.height c.origin-bx.result c.origin-by.result) a.dst.now
-    (λ r k l m. wide-sample (formula a.t.px a.t.py) a.plane.now g.new.window a.size.width a.size.height c.origin-bx.result c.origin-by.result g.result a.b.h r k g.ensures.1 l (omega (arith, m, c.requires.span.0))))
+    (c.interpolate.ensures ∙ painted-values a.b.stride a.b.x a.b.y a.b.w a.b.h _ (window_block (formula a.t.phases.px a.t.phases.py) a.plane.samples.now a.plane.size.width a.plane.size.height c.origin-bx.result c.origin-by.result) a.dst.now
+    (λ r k l m. wide-sample (formula a.t.phases.px a.t.phases.py) a.plane.samples.now g.new.window a.plane.size.width a.plane.size.height c.origin-bx.result c.origin-by.result g.result a.b.h r k g.ensures.1 l (omega (arith, m, c.requires.0))))

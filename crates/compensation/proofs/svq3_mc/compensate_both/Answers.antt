@@ -10,19 +10,7 @@ pub interpolate_pair-requires : goal.interpolate_pair-requires
 interpolate_pair-requires c =
     let p = c.requires.span in
     let q = c.requires.whole in
-    let i = c.if-t.true in record { span = (p.0, p.1, p.2, q.2.phases.0, q.2.phases.1); py_in_bounds = (taps-room c.args.t q.0 p.0 q.2 i c.args.rcb.now q.0 p.3, taps-room c.args.t q.0 p.0 q.2 i c.args.rcr.now q.1 p.3) }
-
-pub across_edge-requires : goal.across_edge-requires
-across_edge-requires c =
-    let p = c.requires.span in
-    let q = c.requires.whole in
-    record { span = (p.0, p.1, q.2.phases.0, q.2.phases.1); whole = q.0 }
-
-pub across_edge-requires-else-t : goal.across_edge-requires-else-t
-across_edge-requires-else-t c =
-    let p = c.requires.span in
-    let q = c.requires.whole in
-    record { span = (p.0, p.2, q.2.phases.0, q.2.phases.1); whole = q.1 }
+    let i = c.if-t.true in record { span = (p.0, p.1, p.2); taps = (taps-room c.args.t q.0 p.0 q.2 i c.args.rcb.now q.0 p.3, taps-room c.args.t q.0 p.0 q.2 i c.args.rcr.now q.1 p.3) }
 
 pub returns-then-t : goal.returns-then-t
 returns-then-t c =

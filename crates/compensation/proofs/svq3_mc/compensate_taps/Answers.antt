@@ -9,7 +9,7 @@ use Rattle.compensation.proofs.svq3_mc.compensate_taps.Goals as goal
 pub interpolate-requires : goal.interpolate-requires
 interpolate-requires c =
     let p = c.requires in
-    (p.0, p.1, p.3.phases.0, p.3.phases.1, taps-room c.args.t p.2 p.0 p.3 c.if-t.true c.args.plane.now p.2 refl)
+    (p.0, p.1, taps-room c.args.t p.2 p.0 p.3 c.if-t.true c.args.plane.now p.2 refl)
 
 pub returns-then-t : goal.returns-then-t
 returns-then-t c =

@@ -7,38 +7,21 @@ use mir.Val.{SFits}
 use Rattle.ints.proofs.Fits.{signed, back}
 use Rattle.ints.proofs.Same.{reads}
 use Rattle.ints.proofs.Laws.{floor-fits}
-use Rattle.compensation.proofs.Split.{raised-small, raised-cast, raised-whole, raised-phase}
+use Rattle.compensation.proofs.Split.{raised-whole, raised-phase}
+use Rattle.compensation.proofs.svq3_mc.split_mv_component.Goals.{Start}
 use Rattle.compensation.proofs.svq3_mc.split_mv_component.Goals as goal
 
 pub overflow_add-u : goal.overflow_add-u
 overflow_add-u c = search signed depth 20
-
-pub overflow_cast-u-2 : goal.overflow_cast-u-2
-overflow_cast-u-2 c =
-    let record { v = v } = c.ranges in
-    raised-cast 357913942 (lit≤ tt) v (overflow_add-u c) (search reads depth 20)
-
-pub overflow_cast-result : goal.overflow_cast-result
-overflow_cast-result c =
-    let record { v = v } = c.ranges in
-    record { sfits = omega (arith, raised-small 357913942 (lit≤ tt) v (overflow_add-u c) (search reads depth 20)) }
 
 pub overflow_sub-result : goal.overflow_sub-result
 overflow_sub-result c =
     let record { v = v } = c.ranges in
     subst (SFits w64) (sym (raised-whole 357913942 (lit≤ tt) v (overflow_add-u c) (search reads depth 20))) (record { sfits = omega (arith, floor-fits 6 v) })
 
-pub overflow_mul-result : goal.overflow_mul-result
-overflow_mul-result c =
-    let record { v = v } = c.ranges in
-    record { fits = omega (arith, raised-small 357913942 (lit≤ tt) v (overflow_add-u c) (search reads depth 20)) }
-
 pub returns : goal.returns
 returns c =
     let record { v = v } = c.ranges in (
-      back w64 (overflow_sub-result c).sfits (raised-whole 357913942 (lit≤ tt) v (overflow_add-u c) (search reads depth 20)),
-      raised-phase 357913942 (lit≤ tt) v (overflow_add-u c) (search reads depth 20),
+      back w64 (overflow_sub-result (goal.at.returns c).Start).sfits (raised-whole 357913942 (lit≤ tt) v (overflow_add-u (goal.at.returns c).Start) (search reads depth 20)),
+      raised-phase 357913942 (lit≤ tt) v (overflow_add-u (goal.at.returns c).Start) (search reads depth 20),
     )
-
-pub overflow_cast-u : goal.overflow_cast-u
-overflow_cast-u c = search signed depth 20

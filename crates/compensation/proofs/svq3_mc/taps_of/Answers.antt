@@ -1,14 +1,12 @@
 -- `compensation::svq3_mc::taps_of` meets its contract: phases and place are those of the definitions.
 use mathlib.Core.Path.{◌≡◌, sym, ap, subst, ◌∙◌}
-use mathlib.Core.Bool.{◌&&◌}
-use native.Mathlib.Omega.{arith}
 use lib.IntN.{ℤ, ◌+ℤ◌}
 use mir.Syntax.{w32}
 use mir.Val.{SFits}
 use mir.Facts.{to_z-of_z}
 use Rattle.ints.specs.Z.{floor_z, mod_z}
-use Rattle.ints.proofs.Fits.{signed, via}
-use Rattle.ints.proofs.Laws.{floor-fits, mod-less}
+use Rattle.ints.proofs.Fits.{via}
+use Rattle.ints.proofs.Laws.{floor-fits}
 use Rattle.compensation.proofs.Split.{summed-fits, summed-is}
 use Rattle.compensation.proofs.svq3_mc.taps_of.Goals.{After-split_mv_component-sy}
 use Rattle.compensation.proofs.svq3_mc.taps_of.Goals as goal
@@ -29,27 +27,16 @@ phases c =
     let f = c.ranges in
     (via (λ z. mod_z z 6) c.split_mv_component-sx.ensures.1 (to_z-of_z f.vx), via (λ z. mod_z z 6) c.split_mv_component-sy.ensures.1 (to_z-of_z f.vy))
 
-pub returns : goal.returns
-returns c =
+pub returns-clause-placed : goal.returns-clause-placed
+returns-clause-placed c =
     let a = c.args in
-    let p = phases (goal.at.returns c).After-split_mv_component-sy in
-    let across = summed-is a.x c.split_mv_component-sx.result.whole c.ranges.x (fit (goal.at.returns c).After-split_mv_component-sy).0 ∙ ap (λ (z : ℤ). a.x +ℤ z) (wholes (goal.at.returns c).After-split_mv_component-sy).0 in
-    let down = summed-is a.y c.split_mv_component-sy.result.whole c.ranges.y (fit (goal.at.returns c).After-split_mv_component-sy).1 ∙ ap (λ (z : ℤ). a.y +ℤ z) (wholes (goal.at.returns c).After-split_mv_component-sy).1 in record {
-      placed = record { across_phase = p.0; down_phase = p.1; across = across; down = down };
-      taps_in = record {
-        phases = (rw p.0 (mod-less 6 a.vx (omega arith)), rw p.1 (mod-less 6 a.vy (omega arith)));
-        whether = rw (← c.extra_of-e.ensures.0) (λ i. c.lies_in.ensures i && c.lies_in-2.ensures i);
-      };
-    }
-
-pub overflow_cast-ox : goal.overflow_cast-ox
-overflow_cast-ox c = search signed depth 20
+    let p = phases (goal.at.returns-clause-placed c).After-split_mv_component-sy in
+    let across = summed-is a.x c.split_mv_component-sx.result.whole c.ranges.x (fit (goal.at.returns-clause-placed c).After-split_mv_component-sy).0 ∙ ap (λ (z : ℤ). a.x +ℤ z) (wholes (goal.at.returns-clause-placed c).After-split_mv_component-sy).0 in
+    let down = summed-is a.y c.split_mv_component-sy.result.whole c.ranges.y (fit (goal.at.returns-clause-placed c).After-split_mv_component-sy).1 ∙ ap (λ (z : ℤ). a.y +ℤ z) (wholes (goal.at.returns-clause-placed c).After-split_mv_component-sy).1 in
+    record { across_phase = p.0; down_phase = p.1; across = across; down = down }
 
 pub overflow_add-ox : goal.overflow_add-ox
 overflow_add-ox c = summed-fits _ _ c.ranges.x (fit (goal.at.overflow_add-ox c).After-split_mv_component-sy).0
-
-pub overflow_cast-oy : goal.overflow_cast-oy
-overflow_cast-oy c = search signed depth 20
 
 pub overflow_add-oy : goal.overflow_add-oy
 overflow_add-oy c = summed-fits _ _ c.ranges.y (fit (goal.at.overflow_add-oy c).After-split_mv_component-sy).1

@@ -1,34 +1,14 @@
 -- `compensation::tiles::interpolate_pair` meets its contract: whole samples are copied, all others mixed.
-use mathlib.Core.Path.{◌≡◌, sym, ◌∙◌}
-use Prim.Native.Nat.{◌+◌, ◌*◌, ◌<◌}
-use native.Mathlib.Omega.{arith}
-use lib.ListN.{length}
-use Rattle.compensation.specs.InnerKernel.{extra}
+use mathlib.Core.Path.{sym, ◌∙◌}
 use Rattle.compensation.proofs.Mixes.{mixed-block}
-use Rattle.compensation.proofs.Taps.{extra-zero, mixed-room}
+use Rattle.compensation.proofs.Taps.{extra-zero}
 use Rattle.compensation.proofs.tiles.interpolate_pair.Goals.{Else-extra_of-eq0}
 use Rattle.compensation.proofs.tiles.interpolate_pair.Goals as goal
-
-one : (c : Else-extra_of-eq0) → let a = c.args in extra a.px a.py ≡ 1
-one c = omega (arith, c.extra_of.ensures, c.if-extra_of-eq0.false)
-
-cb-room : (c : Else-extra_of-eq0) → let a = c.args in a.from + a.b.h * a.b.stride + a.b.w < length a.rcb.now
-cb-room c = let a = c.args in mixed-room a.px a.py a.b.stride a.from (length a.rcb.now) c.requires.span.0 (one c) c.requires.py_in_bounds.0
-
-cr-room : (c : Else-extra_of-eq0) → let a = c.args in a.from + a.b.h * a.b.stride + a.b.w < length a.rcr.now
-cr-room c = let a = c.args in mixed-room a.px a.py a.b.stride a.from (length a.rcr.now) c.requires.span.0 (one c) c.requires.py_in_bounds.1
-
-pub mix_of-mix-requires : goal.mix_of-mix-requires
-mix_of-mix-requires c = (c.requires.span.3, c.requires.span.4)
-
-pub mix_pair-requires : goal.mix_pair-requires
-mix_pair-requires c =
-    record { from_square = c.mix_of-mix.ensures.square; block_in = (c.requires.span.1, c.requires.span.2); w_in_bounds = (cb-room (goal.at.mix_pair-requires c).Else-extra_of-eq0, cr-room (goal.at.mix_pair-requires c).Else-extra_of-eq0) }
 
 pub returns-then-extra_of-eq0 : goal.returns-then-extra_of-eq0
 returns-then-extra_of-eq0 c =
     let a = c.args in
-    let none = extra-zero a.px a.py (sym c.extra_of.ensures.0 ∙ c.if-extra_of-eq0.true) in
+    let none = extra-zero a.p.px a.p.py (sym c.extra_of.ensures.0 ∙ c.if-extra_of-eq0.true) in
     rw (none.0, none.1) (record { cb_after = c.copy_by_width.ensures; cr_after = c.copy_by_width-then-extra_of-eq0.ensures })
 
 pub returns-else-extra_of-eq0 : goal.returns-else-extra_of-eq0

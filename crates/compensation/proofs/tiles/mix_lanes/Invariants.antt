@@ -1,13 +1,9 @@
 -- `compensation::tiles::mix_lanes` meets its contract: one lane a turn.
 use mathlib.Core.Path.{◌≡◌}
-use Prim.Native.Nat.{◌≤◌, ◌-◌}
 use lib.ListN.{replicate}
 use Rattle.picture.specs.InnerRows.{row}
 use Rattle.compensation.specs.InnerLanes.{mixed_lane}
 use Rattle.compensation.proofs.tiles.mix_lanes.Given as goal
 
 abbrev pub invariant-loop-k : goal.invariant-loop-k
-invariant-loop-k l = (l.k ≤ 16) × (l.t ≡ row (replicate 16 0) 0 (mixed_lane l.mix l.first l.beside l.second l.last) l.k)
-
-abbrev pub decreases-loop-k : goal.decreases-loop-k
-decreases-loop-k l = 16 - l.k
+invariant-loop-k l = l.t ≡ row (replicate 16 0) 0 (mixed_lane l.mix l.first l.beside l.second l.last) l.k

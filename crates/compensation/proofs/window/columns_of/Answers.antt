@@ -1,7 +1,6 @@
 -- `compensation::window::columns_of` meets its contract: one column a turn.
-use mathlib.Core.Path.{◌≡◌, refl}
+use mathlib.Core.Path.{refl}
 use native.Mathlib.Nat.{zero-add}
-use native.Mathlib.Omega.{arith}
 use lib.ListN.{replicate}
 use Rattle.picture.specs.InnerRows.{row}
 use Rattle.picture.proofs.Laws.{row_more}
@@ -10,34 +9,11 @@ use Rattle.compensation.proofs.window.columns_of.Goals as goal
 
 pub loop-c-init : goal.loop-c-init
 unfolding row
-loop-c-init c = (omega arith, refl)
+loop-c-init c = refl
 
 pub loop-c-preserved : goal.loop-c-preserved
 unfolding near_from
 loop-c-preserved c =
     let a = c.args in
     let l = c.loop-c in
-    (omega arith, rw zero-add at (row_more (replicate 17 0) 0 (near_from a.width a.bx) l.c l.invariant.1 c.near_of.ensures.0))
-
-pub returns : goal.returns
-returns c =
-    let e : c.loop-c.c ≡ 17 = omega arith in
-    rw (← e) c.loop-c.invariant.1
-
-pub overflow_add-bx : goal.overflow_add-bx
-overflow_add-bx c = omega arith
-
-pub near_of-requires : goal.near_of-requires
-near_of-requires c = omega arith
-
-pub offset_bounds-t-c : goal.offset_bounds-t-c
-offset_bounds-t-c c = omega arith
-
-pub bounds-t-c : goal.bounds-t-c
-bounds-t-c c = omega arith
-
-pub overflow_add-c : goal.overflow_add-c
-overflow_add-c c = omega arith
-
-pub loop-c-smaller : goal.loop-c-smaller
-loop-c-smaller c = omega arith
+    rw zero-add at (row_more (replicate 17 0) 0 (near_from a.width a.bx) l.c l.invariant c.near_of.ensures.0)

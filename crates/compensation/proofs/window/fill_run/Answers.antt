@@ -1,22 +1,20 @@
--- `compensation::window::fill_run` meets its contract: one place a turn.
-use mathlib.Core.Path.{◌≡◌, refl}
+-- `compensation::window::fill_run` meets its contract.
+use mathlib.Core.Path.{◌≡◌, ap, ◌∙◌}
+use mathlib.Core.List.{List}
+use Prim.Native.Nat.{ℕ, ◌+◌}
 use native.Mathlib.Omega.{arith}
-use lib.ListN.{length-set}
-use Rattle.picture.specs.InnerRows.{row}
-use Rattle.picture.proofs.Laws.{row_more}
+use lib.ListN.{length, get_or}
+use Rattle.std.proofs.lemmas.List.{get_or-replicate}
+use Rattle.std.proofs.lemmas.List.Edits.{length-between}
+use Rattle.compensation.proofs.Runs.{put-run}
 use Rattle.compensation.proofs.window.fill_run.Goals as goal
-
-pub loop-c-init : goal.loop-c-init
-unfolding row
-loop-c-init c = (omega arith, refl, refl)
-
-pub loop-c-preserved : goal.loop-c-preserved
-loop-c-preserved c =
-    let a = c.args in
-    let l = c.loop-c in
-    (omega arith, simp length-set (omega arith), row_more a.window.now a.at (λ k. a.sample) l.c l.invariant.2 refl)
 
 pub returns : goal.returns
 returns c =
-    let e : c.loop-c.c ≡ 17 = omega arith in
-    rw (← e) c.loop-c.invariant.2
+    let a = c.args in
+    let f = c.fill in
+    let after = f.ensures.after (λ y e. e) in
+    let part = length-between a.window.now a.at (a.at + 17) c.requires in
+    let long : length f.new.self ≡ 17 = f.ensures.len ∙ part ∙ omega arith in
+    put-run a.window.now f.new.self a.at (λ k. a.sample) 17 (omega arith) long (omega arith)
+    (λ k lt. ap (λ (ys : List ℕ). get_or ys k 0) after ∙ get_or-replicate _ k a.sample 0 (omega (arith, part)))

@@ -1,21 +1,12 @@
 -- `compensation::window::gather_beside` meets its contract: one row a turn, in two halves that lie apart.
-use mathlib.Core.Path.{◌≡◌, refl, ◌∙◌}
+use mathlib.Core.Path.{refl, ◌∙◌}
 use Prim.Native.Nat.{ℕ, ◌+◌, ◌-◌, ◌*◌}
 use native.Mathlib.Omega.{arith}
 use lib.ListN.{get_or}
 use Rattle.picture.specs.InnerRows.{run}
 use Rattle.compensation.specs.InnerKernel.{run_at, edge_at}
-use Rattle.compensation.proofs.Taps.{line-place}
-use Rattle.compensation.proofs.Wide.{wide-none, wide-more, wide-kept, wide-here, wide-there}
+use Rattle.compensation.proofs.Wide.{wide-more, wide-kept, wide-here, wide-there}
 use Rattle.compensation.proofs.window.gather_beside.Goals as goal
-
-pub loop-r-init : goal.loop-r-init
-loop-r-init c = (omega arith, refl, wide-none _ _ _, wide-none _ _ _)
-
--- the line ends within the plane
-pub copy_run-requires : goal.copy_run-requires
-copy_run-requires c =
-    (omega arith, omega (arith, line-place {a = c.args.from + 16} c.requires.whole.0 c.near_of.ensures.1 (omega arith)))
 
 pub loop-r-preserved : goal.loop-r-preserved
 unfolding run_at edge_at
@@ -27,24 +18,18 @@ loop-r-preserved c =
     let filled = c.fill_run in
     let at = l.r * 34 + a.to in
     let rest = l.r * 34 + (17 - a.to) in
-    let u = run a.plane.now (c.near_of.result * a.size.width + a.from) in
-    let w : ℕ → ℕ = λ k. get_or a.plane.now (c.near_of.result * a.size.width + a.edge) 0 in
+    let u = run a.plane.samples.now (c.near_of.result * a.plane.size.width + a.from) in
+    let w : ℕ → ℕ = λ k. get_or a.plane.samples.now (c.near_of.result * a.plane.size.width + a.edge) 0 in
     let e = copied.ensures in
     let f = filled.ensures in (
-      omega arith,
       omega (arith, copied.auto.window, filled.auto.window),
       wide-more
-          (wide-kept copied.new.window rest w f (omega arith) (omega arith) (wide-kept l.window at u e (omega arith) (omega arith) l.invariant.2))
+          (wide-kept copied.new.window rest w f (omega arith) (omega arith) (wide-kept l.window at u e (omega arith) (omega arith) l.invariant.1))
           (λ k lk.
           wide-there copied.new.window rest w f (a.to + l.r * 34 + k) (λ j lj q. omega arith)
           ∙ wide-here l.window at u e a.to l.r k refl (omega arith) lk
-          ∙ (λ i. run a.plane.now (line i * a.size.width + a.from) k)),
+          ∙ (λ i. run a.plane.samples.now (line i * a.plane.size.width + a.from) k)),
       wide-more
-          (wide-kept copied.new.window rest w f (omega arith) (omega arith) (wide-kept l.window at u e (omega arith) (omega arith) l.invariant.3))
-          (λ k lk. wide-here copied.new.window rest w f (17 - a.to) l.r k refl (omega (arith, copied.auto.window)) lk ∙ (λ i. get_or a.plane.now (line i * a.size.width + a.edge) 0)),
+          (wide-kept copied.new.window rest w f (omega arith) (omega arith) (wide-kept l.window at u e (omega arith) (omega arith) l.invariant.2))
+          (λ k lk. wide-here copied.new.window rest w f (17 - a.to) l.r k refl (omega (arith, copied.auto.window)) lk ∙ (λ i. get_or a.plane.samples.now (line i * a.plane.size.width + a.edge) 0)),
     )
-
-pub returns : goal.returns
-returns c =
-    let e : c.loop-r.r ≡ c.args.h = omega arith in
-    record { wide = rw (← e) c.loop-r.invariant.2; wide_2 = rw (← e) c.loop-r.invariant.3 }

@@ -1,18 +1,10 @@
 -- `compensation::window::gather_each` meets its contract: one row of taps a turn.
-use mathlib.Core.Path.{◌≡◌, refl, ◌∙◌}
+use mathlib.Core.Path.{◌∙◌}
 use Prim.Native.Nat.{◌*◌}
 use native.Mathlib.Omega.{arith}
 use Rattle.compensation.specs.InnerKernel.{picked, picked_at}
-use Rattle.compensation.proofs.Taps.{line-place}
-use Rattle.compensation.proofs.Wide.{wide-none, wide-more, wide-kept, wide-here}
+use Rattle.compensation.proofs.Wide.{wide-more, wide-kept, wide-here}
 use Rattle.compensation.proofs.window.gather_each.Goals as goal
-
-pub loop-r-init : goal.loop-r-init
-loop-r-init c = (omega arith, refl, wide-none _ 0 _)
-
-pub gather_row-requires : goal.gather_row-requires
-gather_row-requires c =
-    (omega arith, λ k l. line-place c.requires.whole.0 c.near_of.ensures.1 (c.requires.whole.2 k l))
 
 pub loop-r-preserved : goal.loop-r-preserved
 unfolding picked_at
@@ -20,16 +12,10 @@ loop-r-preserved c =
     let a = c.args in
     let l = c.loop-r in
     let near = c.near_of in
-    let u = picked a.plane.now (near.result * a.size.width) a.columns.now in
+    let u = picked a.plane.samples.now (near.result * a.plane.size.width) a.columns.now in
     let e = c.gather_row.ensures in (
-      omega arith,
       omega (arith, c.gather_row.auto.window),
       wide-more
-          (wide-kept l.window (l.r * 34) u e (omega arith) (omega arith) l.invariant.2)
-          (λ k lk. wide-here l.window (l.r * 34) u e 0 l.r k (omega arith) (omega arith) lk ∙ (λ i. picked a.plane.now (near.ensures.0 i * a.size.width) a.columns.now k)),
+          (wide-kept l.window (l.r * 34) u e (omega arith) (omega arith) l.invariant.1)
+          (λ k lk. wide-here l.window (l.r * 34) u e 0 l.r k (omega arith) (omega arith) lk ∙ (λ i. picked a.plane.samples.now (near.ensures.0 i * a.plane.size.width) a.columns.now k)),
     )
-
-pub returns : goal.returns
-returns c =
-    let e : c.loop-r.r ≡ c.args.h = omega arith in
-    rw (← e) c.loop-r.invariant.2

@@ -1,5 +1,5 @@
 -- `compensation::window::gather_row` meets its contract: one tap a turn.
-use mathlib.Core.Path.{◌≡◌, refl}
+use mathlib.Core.Path.{refl}
 use native.Mathlib.Omega.{arith}
 use lib.ListN.{length-set}
 use Rattle.picture.specs.InnerRows.{row}
@@ -9,22 +9,11 @@ use Rattle.compensation.proofs.window.gather_row.Goals as goal
 
 pub loop-c-init : goal.loop-c-init
 unfolding row
-loop-c-init c = (omega arith, refl, refl)
-
-pub overflow_add-window : goal.overflow_add-window
-overflow_add-window c = omega (arith, c.requires.1 c.loop-c.c (omega arith))
-
-pub bounds-plane-line : goal.bounds-plane-line
-bounds-plane-line c = c.requires.1 c.loop-c.c (omega arith)
+loop-c-init c = (refl, refl)
 
 pub loop-c-preserved : goal.loop-c-preserved
 unfolding picked
 loop-c-preserved c =
     let a = c.args in
     let l = c.loop-c in
-    (omega arith, simp length-set (omega arith), row_more a.window.now a.at (picked a.plane.now a.line a.columns.now) l.c l.invariant.2 refl)
-
-pub returns : goal.returns
-returns c =
-    let e : c.loop-c.c ≡ 17 = omega arith in
-    rw (← e) c.loop-c.invariant.2
+    (simp length-set (omega arith), row_more a.window.now a.at (picked a.plane.now a.line a.columns.now) l.c l.invariant.1 refl)

@@ -1,7 +1,7 @@
--- `compensation::kernel::mix_taps` answers `mixed_taps`.
+-- `Mix::sample` answers `mixed_taps`.
 use mathlib.Core.Path.{refl}
 use Rattle.compensation.specs.InnerKernel.{mixed_taps}
-use Rattle.compensation.proofs.kernel.mix_taps.Goals as goal
+use Rattle.compensation.proofs.mix.Mix.sample.Goals as goal
 
 pub returns : goal.returns
 unfolding mixed_taps
