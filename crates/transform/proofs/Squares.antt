@@ -13,7 +13,9 @@ use Rattle.std.proofs.Common.{add-zero}
 use Rattle.std.proofs.lemmas.List.{take_rest}
 use Rattle.picture.specs.Painted.{Inside}
 use Rattle.ints.specs.Z.{sat_z}
-use Rattle.transform.specs.Residual.{placed}
+use Rattle.transform.specs.Tables.{dequant_coeff, chroma_coeff}
+use Rattle.transform.specs.Residual.{placed, residual}
+use Rattle.transform.specs.InnerResidual.{luma_residual, chroma_residual}
 use Rattle.transform.specs.ChromaDc.{secondary, scaled_at, chroma_dc}
 use Rattle.transform.specs.Added.{added}
 use Rattle.transform.specs.InnerFour.{added_four, added_blocks}
@@ -31,12 +33,20 @@ rest-at : (n k : ℕ) (l : List ℤ) → get_or (rest n l) k (pos 0) ≡ get_or 
 unfolding rest
 rest-at n k l = ap (λ m. get_or m k (pos 0)) (take_rest l n) ∙ get_or-drop n l k (pos 0)
 
-pub placed-slice : (n m : ℕ) (l : List ℤ) → placed (take (length l - n) (drop n l)) m ≡ placed l (n + m)
+placed-slice : (n m : ℕ) (l : List ℤ) → placed (take (length l - n) (drop n l)) m ≡ placed l (n + m)
 unfolding placed rest
 placed-slice n m l = λ i r c. (rest-at n (m + (4 * r + c)) l ∙ ap (λ k. get_or l k (pos 0)) (sym (add_assoc n m (4 * r + c)))) i
 
 pub placed-rest : (n : ℕ) (l : List ℤ) → placed (take (length l - n) (drop n l)) 0 ≡ placed l n
 placed-rest n l = placed-slice n 0 l ∙ ap (placed l) (add-zero n)
+
+pub luma-slice : (q n m : ℕ) (l : List ℤ) → luma_residual q (take (length l - n) (drop n l)) m ≡ luma_residual q l (n + m)
+unfolding luma_residual
+luma-slice q n m l = ap (residual (dequant_coeff q) (pos 0)) (placed-slice n m l)
+
+pub chroma-slice : (q : ℕ) (dc : ℤ) (n m : ℕ) (l : List ℤ) → chroma_residual q dc (take (length l - n) (drop n l)) m ≡ chroma_residual q dc l (n + m)
+unfolding chroma_residual
+chroma-slice q dc n m l = ap (residual (chroma_coeff q) dc) (placed-slice n m l)
 
 pub chroma_dc-rest : (scale n : ℕ) (l : List ℤ) → chroma_dc scale (take (length l - n) (drop n l)) 0 ≡ chroma_dc scale l n
 unfolding chroma_dc scaled_at rest
