@@ -19,7 +19,7 @@ fn add_exact(plane: &mut [u8], s: Square, levels: &[i32], scale: Scale, dc: &[i3
     let rows = exact::rows(levels, scale);
     for (b, dc) in dc.iter().enumerate() {
         let r = exact::columns(&rows[4 * b..], *dc);
-        reconstruct_4x4(plane, s.block(b), &r);
+        reconstruct_4x4(plane, s.block(b), r);
     }
 }
 

@@ -16,7 +16,7 @@ pub fn add_block(plane: &mut [u8], s: Square, levels: &[i32], scale: Scale, dc: 
     ensures { plane.new ≡ added plane.old s.stride s.x s.y (residual scale.by dc (placed levels.now 0)) }
 {
     let r = dequantize_transform_luma_block_with_dc(levels, scale, dc);
-    reconstruct_4x4(plane, s, &r);
+    reconstruct_4x4(plane, s, r);
 }
 
 // A chroma block with no levels but its DC: each residual is the same.
@@ -25,5 +25,5 @@ pub fn add_chroma_dc_block(plane: &mut [u8], s: Square, dc: i32)
     ensures { (scale : ℕ) → plane.new ≡ added plane.old s.stride s.x s.y (residual scale dc no_levels) }
 {
     let v = finish(0, dc);
-    reconstruct_4x4(plane, s, &[v; 16]);
+    reconstruct_4x4(plane, s, [v; 16]);
 }

@@ -14,7 +14,7 @@ loop-j-init c = refl
 pub loop-j-preserved : goal.loop-j-preserved
 loop-j-preserved c =
     let s = c.args.s in
-    row-added s.stride s.x s.y c.loop-j.j c.args.plane.now c.args.residual.now c.requires.0.across c.loop-j.invariant c.add_row.ensures
+    row-added s.stride s.x s.y c.loop-j.j c.args.plane.now c.args.residual c.requires.0.across c.loop-j.invariant c.add_row.ensures
 
 pub returns : goal.returns
 unfolding added
