@@ -6,3 +6,5 @@ pub mod Squares
 pub mod Methods
 pub mod Turns
 pub mod Unsaturated
+pub mod Made
+pub mod Slices

@@ -47,34 +47,34 @@ pub fn all_small(levels: &[i32], scale: Scale, dc: &[i32; 4]) -> bool
     all_within(dc, 800000) & all_within(&levels[..64], 800000 / scale.by)
 }
 
-// The level at `at` times the entry.
-fn scale_small(levels: &[i32], at: usize, scale: Scale) -> i32
-    requires { (at < length levels.now) × (nat_abs (exact_at scale.by levels.now at) ≤ 800000) }
-    ensures { result ≡ exact_at scale.by levels.now at }
+// Level n times the entry.
+fn scale_small(levels: &[i32], n: usize, scale: Scale) -> i32
+    requires { (n < length levels.now) × (nat_abs (exact_at scale.by levels.now n) ≤ 800000) }
+    ensures { result ≡ exact_at scale.by levels.now n }
 {
-    levels[at] * (scale.by as i32)
+    levels[n] * (scale.by as i32)
 }
 
-// A row of four levels from `at` on, each times the entry, transformed.
-fn row(levels: &[i32], at: usize, scale: Scale) -> [i32; 4]
-    requires { (at + 4 ≤ length levels.now) × SmallFrom scale.by levels.now at }
-    ensures { result ≡ row_sums scale.by levels.now at }
+// The first four levels, each times the entry, transformed.
+fn row(levels: &[i32], scale: Scale) -> [i32; 4]
+    requires { (4 ≤ length levels.now) × SmallFrom scale.by levels.now 0 }
+    ensures { result ≡ row_sums scale.by levels.now 0 }
 {
-    let a = scale_small(levels, at, scale);
-    let b = scale_small(levels, at + 1, scale);
-    let c = scale_small(levels, at + 2, scale);
-    let d = scale_small(levels, at + 3, scale);
+    let a = scale_small(levels, 0, scale);
+    let b = scale_small(levels, 1, scale);
+    let c = scale_small(levels, 2, scale);
+    let d = scale_small(levels, 3, scale);
     sums(a, b, c, d)
 }
 
-// The sixteen rows of four blocks, transformed.
+// The sixteen rows of four blocks, transformed. A loop: a closure for `from_fn` would have to repeat in its clauses what `row` requires.
 pub fn rows(levels: &[i32], scale: Scale) -> [[i32; 4]; 16]
     requires { Exact scale.by levels.now }
     ensures { Rows scale.by levels.now 16 result }
 {
     let mut y = [[0i32; 4]; 16];
     for i in 0..16 {
-        y[i] = row(levels, 4 * i, scale);
+        y[i] = row(&levels[4 * i..], scale);
     }
     y
 }

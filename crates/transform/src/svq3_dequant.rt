@@ -1,11 +1,13 @@
 // Levels times the quantiser's entry, the transform of a block of 4 × 4, and the chroma DC. All saturates at i32.
-ghost use Rattle.std.specs.Prelude.{◌≡◌, ◌≤◌, ◌<◌, ◌+◌, length};
+ghost use Rattle.std.specs.Prelude.{◌≡◌, ◌≤◌, ◌<◌, pos, ◌*ℤ◌, length};
+ghost use Rattle.ints.specs.Z.{sat_z};
 ghost use Rattle.transform.specs.Tables.{dequant_coeff, chroma_quantiser_index, chroma_coeff};
 ghost use Rattle.transform.specs.Residual.{placed, listed, scaled, rows_of, rounded, residual};
-ghost use Rattle.transform.specs.ChromaDc.{sat_half, secondary, scaled_at, chroma_dc};
+ghost use Rattle.transform.specs.ChromaDc.{sat_half, secondary, chroma_dc};
 ghost use Rattle.transform.specs.InnerArrays.{turned, dot, dot_row, short, shortened, finished};
 
 use crate::Scale;
+use std::array;
 
 const DEQUANT_COEFF_TABLE: [u32; 32] = [
     3881, 4351, 4890, 5481, 6154, 6914, 7761, 8718, 9781, 10987, 12339, 13828, 15523, 17435, 19561,
@@ -42,12 +44,11 @@ pub fn chroma_coeff(q: u32) -> Scale
     dequant_coeff(chroma_quantiser_index(q))
 }
 
-// The level at `at`, times the quantiser's entry.
-fn scale_level(levels: &[i32], at: usize, scale: Scale) -> i32
-    requires { at < length levels.now }
-    ensures { result ≡ scaled_at scale.by levels.now at }
+// A level times the quantiser's entry.
+fn scale_level(level: i32, scale: Scale) -> i32
+    ensures { result ≡ sat_z (level *ℤ pos scale.by) }
 {
-    levels[at].saturating_mul(scale.by as i32)
+    level.saturating_mul(scale.by as i32)
 }
 
 // The first sixteen levels, each times the quantiser's entry.
@@ -55,11 +56,7 @@ fn scale_luma_block_by_quantiser(levels: &[i32], scale: Scale) -> [i32; 16]
     requires { 16 ≤ length levels.now }
     ensures { result ≡ listed (scaled scale.by (placed levels.now 0)) }
 {
-    let mut x = [0i32; 16];
-    for n in 0..16 {
-        x[n] = scale_level(levels, n, scale);
-    }
-    x
+    array::from_fn(|n| scale_level(levels[n], scale))
 }
 
 // Four numbers weighed by a row of the transform's matrix.
@@ -120,11 +117,7 @@ pub fn finish(t: i32, dc: i32) -> i16
 fn finish_block(t: &[i32; 16], dc: i32) -> [i16; 16]
     ensures { result ≡ listed (shortened (finished dc (placed t.now 0))) }
 {
-    let mut r = [0i16; 16];
-    for n in 0..16 {
-        r[n] = finish(t[n], dc);
-    }
-    r
+    array::from_fn(|n| finish(t[n], dc))
 }
 
 // The residuals of the first sixteen levels.
@@ -163,9 +156,9 @@ pub fn dequantize_chroma_dc_levels(levels: &[i32], q: u32) -> [i32; 4]
     ensures { result ≡ chroma_dc (chroma_coeff q) levels.now 0 }
 {
     let scale = chroma_coeff(q);
-    let a = scale_level(levels, 0, scale);
-    let b = scale_level(levels, 1, scale);
-    let c = scale_level(levels, 2, scale);
-    let d = scale_level(levels, 3, scale);
+    let a = scale_level(levels[0], scale);
+    let b = scale_level(levels[1], scale);
+    let c = scale_level(levels[2], scale);
+    let d = scale_level(levels[3], scale);
     chroma_dc_secondary_transform(a, b, c, d)
 }

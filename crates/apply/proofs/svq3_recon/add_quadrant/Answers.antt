@@ -8,7 +8,7 @@ use lib.Dec.{lit<}
 use Rattle.ints.specs.Z.{when◌then◌else◌}
 use Rattle.picture.proofs.Laws.{plane-inside}
 use Rattle.transform.specs.InnerFour.{added_four}
-use Rattle.transform.proofs.Squares.{luma-slice}
+use Rattle.transform.proofs.Slices.{luma-slice}
 use Rattle.levels.specs.Pattern.{quadrant_coded}
 use Rattle.apply.specs.InnerSquares.{quadrant_added}
 use Rattle.apply.proofs.Residuals.{quadrant-inside}

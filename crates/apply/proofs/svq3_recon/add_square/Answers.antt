@@ -7,7 +7,7 @@ use Rattle.transform.specs.Tables.{chroma_coeff}
 use Rattle.transform.specs.InnerResidual.{chroma_residual}
 use Rattle.transform.specs.ChromaDc.{chroma_dc}
 use Rattle.transform.specs.InnerFour.{added_four}
-use Rattle.transform.proofs.Squares.{chroma-slice, chroma_dc-rest}
+use Rattle.transform.proofs.Slices.{chroma-slice, chroma_dc-rest}
 use Rattle.apply.specs.InnerSquares.{square_added}
 use Rattle.apply.proofs.Residuals.{dc-square}
 use Rattle.apply.proofs.svq3_recon.add_square.Goals.{After-dequantize_chroma_dc_levels-dc}

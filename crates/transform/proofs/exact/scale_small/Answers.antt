@@ -8,7 +8,7 @@ use Rattle.transform.specs.InnerPasses.{exact_at}
 use Rattle.transform.proofs.exact.scale_small.Goals.{Start}
 use Rattle.transform.proofs.exact.scale_small.Goals as goal
 
-product : (c : Start) → SFits w32 (get_or c.args.levels.now c.args.at (pos 0)) → read w32 (get_or c.args.levels.now c.args.at (pos 0)) *ℤ to_z w32 c.args.scale.by ≡ exact_at c.args.scale.by c.args.levels.now c.args.at
+product : (c : Start) → SFits w32 (get_or c.args.levels.now c.args.n (pos 0)) → read w32 (get_or c.args.levels.now c.args.n (pos 0)) *ℤ to_z w32 c.args.scale.by ≡ exact_at c.args.scale.by c.args.levels.now c.args.n
 unfolding exact_at
 product c f =
     let s = c.args.scale in
@@ -19,10 +19,10 @@ product c f =
 
 pub overflow_mul-result : goal.overflow_mul-result
 overflow_mul-result c =
-    let f : SFits w32 (get_or c.args.levels.now c.args.at (pos 0)) = search rules in
+    let f : SFits w32 (get_or c.args.levels.now c.args.n (pos 0)) = search rules in
     subst (SFits w32) (sym (product (goal.at.overflow_mul-result c).Start f)) (fits (within-abs 800000 _ _ c.requires.1 tt))
 
 pub returns : goal.returns
 returns c =
-    let f : SFits w32 (get_or c.args.levels.now c.args.at (pos 0)) = search rules in
+    let f : SFits w32 (get_or c.args.levels.now c.args.n (pos 0)) = search rules in
     to_z-of_z (overflow_mul-result c) ∙ product (goal.at.returns c).Start f

@@ -5,7 +5,8 @@ use mir.Val.{SFits}
 use mir.Facts.{to_z-of_z}
 use Rattle.transform.specs.Residual.{residual}
 use Rattle.transform.specs.Added.{added}
-use Rattle.transform.proofs.Squares.{placed-rest, none-added, one-added, all-added}
+use Rattle.transform.proofs.Slices.{placed-rest}
+use Rattle.transform.proofs.Squares.{none-added, one-added, all-added}
 use Rattle.transform.proofs.four.add_each.Goals as goal
 
 pub loop-b-init : goal.loop-b-init
