@@ -18,7 +18,7 @@ use Rattle.transform.specs.InnerResidual.{no_levels, luma_residual, chroma_resid
 use Rattle.transform.specs.ChromaDc.{chroma_dc}
 use Rattle.transform.specs.Added.{added}
 use Rattle.transform.specs.InnerFour.{added_four}
-use Rattle.transform.proofs.Square.{four-added}
+use Rattle.transform.proofs.Squares.{four-added}
 use Rattle.levels.specs.Pattern.{class_of, quadrant_coded}
 use Rattle.levels.proofs.ShortTable.{at}
 use Rattle.record.specs.declared.Head.{Head}

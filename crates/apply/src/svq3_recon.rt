@@ -1,6 +1,6 @@
 // The residual of a macroblock's coded blocks, added to the planes.
 ghost use Rattle.std.specs.Prelude.{◌≡◌, false, ℕ, ◌+◌, ◌*◌, ◌<◌, ◌≤◌, pos, length, get_or};
-ghost use Rattle.picture.specs.Painted.{Inside};
+ghost use Rattle.transform.specs.InnerFour.{SquareIn};
 ghost use Rattle.picture.specs.Picture.{luma_length, chroma_length};
 ghost use Rattle.picture.specs.InnerPicture.{Within};
 ghost use Rattle.levels.specs.Items.{ListsRange};
@@ -11,6 +11,7 @@ ghost use Rattle.apply.specs.InnerSquares.{quadrant_added, square_added};
 use levels::svq3_cbp::{chroma_class, luma_quadrant_coded};
 use picture::Grid;
 use record::Head;
+use transform::Square;
 use transform::four::{add_chroma_blocks, add_chroma_dc_blocks, add_luma_quadrant};
 use transform::svq3_dequant::dequantize_chroma_dc_levels;
 
@@ -21,9 +22,12 @@ fn add_quadrant(pic: &mut [u8], levels: &[i32], grid: Grid, head: Head, q: usize
     ensures { pic.new ≡ quadrant_added q grid.cols head levels.now pic.old }
 {
     if luma_quadrant_coded(head.pattern as u8, q as u32) {
-        let x = 16 * (head.column as usize) + 8 * (q % 2);
-        let y = 16 * (head.row as usize) + 8 * (q / 2);
-        add_luma_quadrant(pic, levels, 64 * q, 16 * grid.cols, x, y, head.quantiser);
+        let s = Square {
+            stride: 16 * grid.cols,
+            x: 16 * (head.column as usize) + 8 * (q % 2),
+            y: 16 * (head.row as usize) + 8 * (q / 2),
+        };
+        add_luma_quadrant(pic, s, &levels[64 * q..], head.quantiser);
     }
 }
 
@@ -39,26 +43,17 @@ pub fn add_luma(pic: &mut [u8], levels: &[i32], grid: Grid, head: Head)
     }
 }
 
-// The four blocks of a chroma plane, Cb 0 or Cr 1, from column x of row y on. Without AC levels each has its DC alone.
-fn add_square(
-    pic: &mut [u8],
-    levels: &[i32],
-    stride: usize,
-    x: usize,
-    y: usize,
-    plane: usize,
-    q: u32,
-    ac: bool,
-)
-    requires inside { Inside stride x y 8 8 (length pic.old) × (length levels.now ≡ 392) × (plane < 2) × (q ≤ 31) }
+// The four blocks of a chroma plane, Cb 0 or Cr 1, in a square. Without AC levels each has its DC alone.
+fn add_square(pic: &mut [u8], s: Square, levels: &[i32], plane: usize, q: u32, ac: bool)
+    requires inside { SquareIn s 8 (length pic.old) × (length levels.now ≡ 392) × (plane < 2) × (q ≤ 31) }
     requires pos_value { ac ≡ false → (n : ℕ) → n < 64 → get_or levels.now (264 + 64 * plane + n) (pos 0) ≡ pos 0 }
-    ensures { pic.new ≡ square_added plane stride x y q levels.now pic.old }
+    ensures { pic.new ≡ square_added plane s.stride s.x s.y q levels.now pic.old }
 {
-    let dc = dequantize_chroma_dc_levels(levels, 256 + 4 * plane, q);
+    let dc = dequantize_chroma_dc_levels(&levels[256 + 4 * plane..], q);
     if ac {
-        add_chroma_blocks(pic, levels, 264 + 64 * plane, stride, x, y, q, dc);
+        add_chroma_blocks(pic, s, &levels[264 + 64 * plane..], q, &dc);
     } else {
-        add_chroma_dc_blocks(pic, stride, x, y, dc);
+        add_chroma_dc_blocks(pic, s, &dc);
     }
 }
 
@@ -69,17 +64,11 @@ pub fn add_chroma(pic: &mut [u8], levels: &[i32], grid: Grid, head: Head, plane:
 {
     let class = chroma_class(head.pattern as u8);
     if 0 < class {
-        let x = 8 * (head.column as usize);
-        let y = 8 * (head.row as usize);
-        add_square(
-            pic,
-            levels,
-            8 * grid.cols,
-            x,
-            y,
-            plane,
-            head.quantiser,
-            class == 2,
-        );
+        let s = Square {
+            stride: 8 * grid.cols,
+            x: 8 * (head.column as usize),
+            y: 8 * (head.row as usize),
+        };
+        add_square(pic, s, levels, plane, head.quantiser, class == 2);
     }
 }

@@ -3,8 +3,16 @@ ghost use Rattle.std.specs.Prelude.{◌+◌, ◌*◌, ◌≤◌, ◌<◌, length
 
 use crate::bytes::{signed_at, wide};
 use picture::rows::store_row;
+use transform::Square;
 use transform::four::{add_chroma_blocks, add_chroma_dc_blocks, add_luma_quadrant};
 use transform::svq3_dequant::dequantize_chroma_dc_levels;
+
+// A plane of 8 × 8 samples, all of it.
+const SQUARE: Square = Square {
+    stride: 8,
+    x: 0,
+    y: 0,
+};
 
 // n levels of the bytes given from `from` on, stored from `to` on.
 fn take_levels(levels: &mut [i32], to: usize, given: &[u8], from: usize, n: usize)
@@ -48,7 +56,7 @@ fn luma_at(given: &[u8], answered: &[u8], q: u32, at: usize, first: usize) -> bo
     put_block(&mut samples, at, given);
     put_block(&mut wanted, at, answered);
     take_levels(&mut levels, first, given, 16, 16);
-    add_luma_quadrant(&mut samples, &levels, 0, 8, 0, 0, q);
+    add_luma_quadrant(&mut samples, SQUARE, &levels, q);
     check::same(&samples, &wanted)
 }
 
@@ -70,7 +78,7 @@ fn dc_agrees(given: &[u8], answered: &[u8], dc: [i32; 4]) -> bool
     let mut samples = [0u8; 64];
     if check::same(&given[80..336], &zeros) {
         take_samples(&mut samples, given);
-        add_chroma_dc_blocks(&mut samples, 8, 0, 0, dc);
+        add_chroma_dc_blocks(&mut samples, SQUARE, &dc);
         return check::same(&samples, answered);
     }
     true
@@ -86,8 +94,8 @@ fn chroma(given: &[u8], answered: &[u8], q: u32) -> bool
     take_samples(&mut samples, given);
     take_levels(&mut direct, 0, given, 64, 4);
     take_levels(&mut levels, 0, given, 80, 64);
-    let dc = dequantize_chroma_dc_levels(&direct, 0, q);
-    add_chroma_blocks(&mut samples, &levels, 0, 8, 0, 0, q, dc);
+    let dc = dequantize_chroma_dc_levels(&direct, q);
+    add_chroma_blocks(&mut samples, SQUARE, &levels, q, &dc);
     check::same(&samples, answered) & dc_agrees(given, answered, dc)
 }
 

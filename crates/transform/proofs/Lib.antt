@@ -2,6 +2,9 @@ pub mod Laws
 pub mod Tables
 pub mod Examples
 pub mod Sums
+pub mod Squares
+pub mod Methods
 pub mod Turns
 pub mod Unsaturated
-pub mod Square
+pub mod Made
+pub mod Slices

@@ -1,15 +1,13 @@
 -- The sums of the transform without saturation: their size, with the DC, and in two parts.
 -- Assumes nothing.
 use mathlib.Core.Path.{◌≡◌, refl, sym, ap, subst, ◌∙◌}
-use mathlib.Core.Bool.{Bool, true, false, ◌&&◌}
-use mathlib.Core.List.{[], ◌∷◌}
-use Prim.Native.Nat.{ℕ, zero, suc, ◌+◌, ◌*◌, ◌≤◌}
+use mathlib.Core.List.{List, [], ◌∷◌}
+use Prim.Native.Nat.{ℕ, zero, suc, ◌+◌, ◌*◌, ◌≤◌, ◌<◌}
 use native.Mathlib.Nat.{mul-add}
 use native.Mathlib.Omega.{arith}
-use borrow.Author.Tests.{leb-true, leb-false}
-use lib.Dec.{leb, lit≤}
-use lib.Signed.{le_z}
+use lib.Dec.{lit≤}
 use lib.IntN.{ℤ, pos, nat_abs, ◌+ℤ◌, ◌-ℤ◌, ◌*ℤ◌}
+use lib.ListN.{get_or}
 use mir.Syntax.{w32}
 use mir.Val.{SFits}
 use mir.Facts.{to_z-of_z}
@@ -17,6 +15,7 @@ use Rattle.ints.proofs.Fits.{read, Within, within-fits, within-floor}
 use Rattle.ints.proofs.Laws.{sat-same}
 use Rattle.ints.proofs.Linear.{up, down, z-rules, add-z, diff-z, times-z, mag-z, abs-z}
 use Rattle.transform.specs.Residual.{sum_of, weighed, rounded}
+use Rattle.transform.proofs.Laws.{below-4}
 use Rattle.transform.specs.InnerPasses.{Small, sums_of}
 
 -- ---- for `omega`
@@ -47,28 +46,6 @@ abs_diff x y = omega (arith, diff-z x y, abs-z x, abs-z y, abs-z (x -ℤ y), mag
 pub abs-times : (k : ℕ) (x : ℤ) → nat_abs (pos k *ℤ x) ≡ k * nat_abs x
 abs-times k x = omega (arith, times-z k x, abs-z x, abs-z (pos k *ℤ x), ap (λ n. k * n) (abs-z x), mul-add k (up x) (down x))
 
--- neither above m nor below -m
-pub within-abs : (m : ℕ) (z : ℤ) → (le_z z (pos m) && le_z (pos 0 -ℤ pos m) z) ≡ leb (nat_abs z) m
-within-abs m z = go (le_z z (pos m)) (le_z (pos 0 -ℤ pos m) z) (leb (nat_abs z) m) refl refl refl
-  where
-    go : (s t u : Bool) → le_z z (pos m) ≡ s → le_z (pos 0 -ℤ pos m) z ≡ t → leb (nat_abs z) m ≡ u → (s && t) ≡ u
-    go true true true e f g = refl
-    go true true false e f g = absurd (omega (arith, z-rules, e, f, leb-false (nat_abs z) m g, diff-z (pos 0) (pos m), abs-z z, mag-z z))
-    go true false true e f g = absurd (omega (arith, z-rules, e, f, leb-true (nat_abs z) m g, diff-z (pos 0) (pos m), abs-z z, mag-z z))
-    go true false false e f g = refl
-    go false t true e f g = absurd (omega (arith, z-rules, e, leb-true (nat_abs z) m g, abs-z z, mag-z z))
-    go false t false e f g = refl
-
--- four numbers that are small, under a larger bound too
-pub small-via : {m n : ℕ} {a b c d a' b' c' d' : ℤ} → m ≤ n → a' ≡ a → b' ≡ b → c' ≡ c → d' ≡ d → Small m a b c d → Small n a' b' c' d'
-small-via l e f g h s =
-    record {
-      first = omega (arith, ap nat_abs e, s.first);
-      second = omega (arith, ap nat_abs f, s.second);
-      third = omega (arith, ap nat_abs g, s.third);
-      fourth = omega (arith, ap nat_abs h, s.fourth);
-    }
-
 -- a sum is no larger than 50 times the largest of the four
 pub sum-abs : (k m : ℕ) {a b c d : ℤ} → Small m a b c d → nat_abs (sum_of k a b c d) ≤ 50 * m
 unfolding sum_of
@@ -85,9 +62,24 @@ pub weighed-exact : (k m : ℕ) {a b c d : ℤ} → 50 * m ≤ 2147483647 → Sm
 unfolding weighed
 weighed-exact k m {a} {b} {c} {d} h p = sat-same (sum_fits k m h p)
 
+-- sum k of the four
+pub sums_at : (a b c d : ℤ) (k : ℕ) → k < 4 → get_or (sums_of a b c d) k (pos 0) ≡ sum_of k a b c d
+unfolding sums_of
+sums_at a b c d k h = below-4 (λ k. get_or (sums_of a b c d) k (pos 0) ≡ sum_of k a b c d) refl refl refl refl k h
+
 -- ---- with the DC, and rounded
 pub abs-fits : (n : ℕ) (z : ℤ) → nat_abs z ≤ n → n ≤ 2147483647 → SFits w32 z
 abs-fits n z h k = record { sfits = omega (arith, mag-z z, abs-z z) }
+
+-- sum k of four numbers that were read
+pub sum-read : (k : ℕ) {a b c d : ℤ} {l : List ℤ} → k < 4 → Small 40000000 a b c d → l ≡ sums_of (read w32 a) (read w32 b) (read w32 c) (read w32 d) → read w32 (get_or l k (pos 0)) ≡ sum_of k a b c d
+sum-read k {a} {b} {c} {d} h s e =
+    ap (λ l. read w32 (get_or l k (pos 0))) (e ∙ (λ i. sums_of (same a s.first i) (same b s.second i) (same c s.third i) (same d s.fourth i)))
+    ∙ ap (read w32) (sums_at a b c d k h)
+    ∙ to_z-of_z (sum_fits k 40000000 (lit≤ tt) s)
+  where
+    same : (z : ℤ) → nat_abs z ≤ 40000000 → read w32 z ≡ z
+    same z h = to_z-of_z (abs-fits 40000000 z h (lit≤ tt))
 
 module _ (t dc : ℤ) (h : nat_abs t ≤ 2000000000) (k : nat_abs dc ≤ 800000) where
   pub with-dc : SFits w32 (t +ℤ pos 169 *ℤ dc)

@@ -1,9 +1,20 @@
 -- A plane after four blocks were added to it.
 -- Assumes nothing.
-use Rattle.std.specs.Prelude.{List, ℕ, ◌+◌, ℤ}
+use Rattle.std.specs.Prelude.{List, ℕ, zero, suc, ◌+◌, ◌*◌, ◌/◌, ◌%◌, ℤ}
+use Rattle.picture.specs.Painted.{Inside}
 use Rattle.transform.specs.Added.{added}
+use Rattle.transform.specs.declared.Square.{Square}
+
+-- a square of n × n samples lies within a plane of `size`
+abbrev pub SquareIn : Square → ℕ → ℕ → Type 0
+SquareIn s n size = Inside s.stride s.x s.y n n size
 
 -- a plane after four blocks are added, the upper two and then the lower two, from column x of row y on
 unfoldable pub added_four : List ℕ → ℕ → ℕ → ℕ → (ℕ → ℕ → ℕ → ℤ) → List ℕ
 added_four plane stride x y residual =
     added (added (added (added plane stride x y (residual 0)) stride (x + 4) y (residual 1)) stride x (y + 4) (residual 2)) stride (x + 4) (y + 4) (residual 3)
+
+-- a plane after the first n of these blocks are added
+unfoldable pub added_blocks : List ℕ → ℕ → ℕ → ℕ → (ℕ → ℕ → ℕ → ℤ) → ℕ → List ℕ
+added_blocks plane stride x y residual zero = plane
+added_blocks plane stride x y residual (suc n) = added (added_blocks plane stride x y residual n) stride (x + 4 * (n % 2)) (y + 4 * (n / 2)) (residual n)

@@ -1,9 +1,13 @@
 // Levels times the quantiser's entry, the transform of a block of 4 × 4, and the chroma DC. All saturates at i32.
-ghost use Rattle.std.specs.Prelude.{◌≡◌, ◌≤◌, ◌<◌, ◌+◌, ◌+ℤ◌, ◌-ℤ◌, length};
+ghost use Rattle.std.specs.Prelude.{◌≡◌, ◌≤◌, ◌<◌, pos, ◌*ℤ◌, length};
+ghost use Rattle.ints.specs.Z.{sat_z};
 ghost use Rattle.transform.specs.Tables.{dequant_coeff, chroma_quantiser_index, chroma_coeff};
 ghost use Rattle.transform.specs.Residual.{placed, listed, scaled, rows_of, rounded, residual};
-ghost use Rattle.transform.specs.ChromaDc.{sat_half, secondary, scaled_at, chroma_dc};
+ghost use Rattle.transform.specs.ChromaDc.{sat_half, secondary, chroma_dc};
 ghost use Rattle.transform.specs.InnerArrays.{turned, dot, dot_row, short, shortened, finished};
+
+use crate::Scale;
+use std::array;
 
 const DEQUANT_COEFF_TABLE: [u32; 32] = [
     3881, 4351, 4890, 5481, 6154, 6914, 7761, 8718, 9781, 10987, 12339, 13828, 15523, 17435, 19561,
@@ -16,11 +20,13 @@ const CHROMA_QUANTISER_INDEX: [u32; 32] = [
     23, 23, 24, 24, 25, 25,
 ];
 
-pub fn dequant_coeff(q: u32) -> u32
+pub fn dequant_coeff(q: u32) -> Scale
     requires { q ≤ 31 }
-    ensures { result ≡ dequant_coeff q }
+    ensures { result.by ≡ dequant_coeff q }
 {
-    DEQUANT_COEFF_TABLE[q as usize]
+    Scale {
+        by: DEQUANT_COEFF_TABLE[q as usize],
+    }
 }
 
 pub fn chroma_quantiser_index(q: u32) -> u32
@@ -31,34 +37,26 @@ pub fn chroma_quantiser_index(q: u32) -> u32
 }
 
 // What a chroma level is multiplied by.
-pub fn chroma_coeff(q: u32) -> u32
+pub fn chroma_coeff(q: u32) -> Scale
     requires { q ≤ 31 }
-    ensures { result ≡ chroma_coeff q }
+    ensures { result.by ≡ chroma_coeff q }
 {
     dequant_coeff(chroma_quantiser_index(q))
 }
 
-// The level at `at`, times the quantiser's entry.
-fn scale_level(levels: &[i32], at: usize, scale: u32) -> i32
-    requires { (at < length levels.now) × (scale ≤ 141533) }
-    ensures { result ≡ scaled_at scale levels.now at }
+// A level times the quantiser's entry.
+fn scale_level(level: i32, scale: Scale) -> i32
+    ensures { result ≡ sat_z (level *ℤ pos scale.by) }
 {
-    let level = levels[at];
-    ints::sat_i32((level as i64) * (scale as i64))
+    level.saturating_mul(scale.by as i32)
 }
 
-// The sixteen levels from `at` on, each times the quantiser's entry.
-fn scale_luma_block_by_quantiser(levels: &[i32], at: usize, scale: u32) -> [i32; 16]
-    requires { (at + 16 ≤ length levels.now) × (scale ≤ 141533) }
-    ensures { result ≡ listed (scaled scale (placed levels.now at)) }
+// The first sixteen levels, each times the quantiser's entry.
+fn scale_luma_block_by_quantiser(levels: &[i32], scale: Scale) -> [i32; 16]
+    requires { 16 ≤ length levels.now }
+    ensures { result ≡ listed (scaled scale.by (placed levels.now 0)) }
 {
-    let mut x = [0i32; 16];
-    let mut n = 0;
-    while n < 16 {
-        x[n] = scale_level(levels, at + n, scale);
-        n += 1;
-    }
-    x
+    array::from_fn(|n| scale_level(levels[n], scale))
 }
 
 // Four numbers weighed by a row of the transform's matrix.
@@ -113,32 +111,21 @@ fn apply_luma_transform_rows(x: &[i32; 16]) -> [i32; 16]
 pub fn finish(t: i32, dc: i32) -> i16
     ensures { result ≡ short (rounded t dc) }
 {
-    ints::clamp_i64(((t as i64) + 169 * (dc as i64) + 524288) >> 20, -4096, 4095) as i16
+    (((t as i64) + 169 * (dc as i64) + 524288) >> 20).clamp(-4096, 4095) as i16
 }
 
 fn finish_block(t: &[i32; 16], dc: i32) -> [i16; 16]
     ensures { result ≡ listed (shortened (finished dc (placed t.now 0))) }
 {
-    let mut r = [0i16; 16];
-    let mut n = 0;
-    while n < 16 {
-        r[n] = finish(t[n], dc);
-        n += 1;
-    }
-    r
+    array::from_fn(|n| finish(t[n], dc))
 }
 
-// The residuals of the sixteen levels from `at` on.
-pub fn dequantize_transform_luma_block_with_dc(
-    levels: &[i32],
-    at: usize,
-    scale: u32,
-    dc: i32,
-) -> [i16; 16]
-    requires { (at + 16 ≤ length levels.now) × (scale ≤ 141533) }
-    ensures { result ≡ listed (shortened (residual scale dc (placed levels.now at))) }
+// The residuals of the first sixteen levels.
+pub fn dequantize_transform_luma_block_with_dc(levels: &[i32], scale: Scale, dc: i32) -> [i16; 16]
+    requires { 16 ≤ length levels.now }
+    ensures { result ≡ listed (shortened (residual scale.by dc (placed levels.now 0))) }
 {
-    let x = scale_luma_block_by_quantiser(levels, at, scale);
+    let x = scale_luma_block_by_quantiser(levels, scale);
     let y = apply_luma_transform_rows(&x);
     let z = apply_luma_transform_rows(&y);
     finish_block(&z, dc)
@@ -151,50 +138,27 @@ fn halve(v: i64) -> i32
 }
 
 // The four sums, by the place of their block.
-fn top_left(a: i32, b: i32, c: i32, d: i32) -> i32
-    ensures { result ≡ sat_half (a +ℤ b +ℤ c +ℤ d) }
-{
-    halve((a as i64) + (b as i64) + (c as i64) + (d as i64))
-}
-
-fn top_right(a: i32, b: i32, c: i32, d: i32) -> i32
-    ensures { result ≡ sat_half (a -ℤ b +ℤ c -ℤ d) }
-{
-    halve((a as i64) - (b as i64) + (c as i64) - (d as i64))
-}
-
-fn bottom_left(a: i32, b: i32, c: i32, d: i32) -> i32
-    ensures { result ≡ sat_half (a +ℤ b -ℤ c -ℤ d) }
-{
-    halve((a as i64) + (b as i64) - (c as i64) - (d as i64))
-}
-
-fn bottom_right(a: i32, b: i32, c: i32, d: i32) -> i32
-    ensures { result ≡ sat_half (a -ℤ b -ℤ c +ℤ d) }
-{
-    halve((a as i64) - (b as i64) - (c as i64) + (d as i64))
-}
-
 pub fn chroma_dc_secondary_transform(a: i32, b: i32, c: i32, d: i32) -> [i32; 4]
     ensures { result ≡ secondary a b c d }
 {
+    let (a, b, c, d) = (a as i64, b as i64, c as i64, d as i64);
     [
-        top_left(a, b, c, d),
-        top_right(a, b, c, d),
-        bottom_left(a, b, c, d),
-        bottom_right(a, b, c, d),
+        halve(a + b + c + d),
+        halve(a - b + c - d),
+        halve(a + b - c - d),
+        halve(a - b - c + d),
     ]
 }
 
-// The DC of the four blocks of a chroma plane, from the four levels from `at` on.
-pub fn dequantize_chroma_dc_levels(levels: &[i32], at: usize, q: u32) -> [i32; 4]
-    requires { (at + 4 ≤ length levels.now) × (q ≤ 31) }
-    ensures { result ≡ chroma_dc (chroma_coeff q) levels.now at }
+// The DC of the four blocks of a chroma plane, from the first four levels.
+pub fn dequantize_chroma_dc_levels(levels: &[i32], q: u32) -> [i32; 4]
+    requires { (4 ≤ length levels.now) × (q ≤ 31) }
+    ensures { result ≡ chroma_dc (chroma_coeff q) levels.now 0 }
 {
     let scale = chroma_coeff(q);
-    let a = scale_level(levels, at, scale);
-    let b = scale_level(levels, at + 1, scale);
-    let c = scale_level(levels, at + 2, scale);
-    let d = scale_level(levels, at + 3, scale);
+    let a = scale_level(levels[0], scale);
+    let b = scale_level(levels[1], scale);
+    let c = scale_level(levels[2], scale);
+    let d = scale_level(levels[3], scale);
     chroma_dc_secondary_transform(a, b, c, d)
 }

@@ -1,87 +1,26 @@
--- One row, four numbers, a turn.
-use mathlib.Core.Path.{◌≡◌, refl}
-use native.Mathlib.Omega.{arith}
-use mir.Syntax.{w32}
-use Rattle.ints.proofs.Fits.{back}
-use Rattle.transform.proofs.Turns.{rows-turn}
+-- One row a turn.
+use Rattle.std.proofs.Common.{◌≡◌, ◌∙◌, ap, ◌+◌, ◌*◌, nat_abs, length-drop, arith}
+use Rattle.std.proofs.lemmas.Grind.{common_steps}
+use Rattle.transform.specs.InnerPasses.{row_sums}
+use Rattle.transform.proofs.Slices.{exact-slice, row-slice}
 use Rattle.transform.proofs.exact.rows.Goals as goal
 
-pub loop-i-init : goal.loop-i-init
-loop-i-init c = (omega arith, record { size = refl; done = λ j k lj lk. absurd (omega arith) })
-
-pub row-t-requires : goal.row-t-requires
-row-t-requires c =
-    (omega (arith, c.requires.room), c.requires.entry, c.requires.small c.loop-i.i c.loop-i-test.true)
+pub row-requires : goal.row-requires
+row-requires c =
+    let s = c.args.scale.by in
+    let l = c.args.levels.now in
+    let n = 4 * c.loop-i.i in
+    let h = c.requires.small c.loop-i.i c.loop-i-test.true in (
+      omega (arith, length-drop n l, c.requires.room),
+      record {
+        first = omega (arith, ap nat_abs (exact-slice s n 0 n l (omega arith)), h.first);
+        second = omega (arith, ap nat_abs (exact-slice s n 1 (n + 1) l (omega arith)), h.second);
+        third = omega (arith, ap nat_abs (exact-slice s n 2 (n + 2) l (omega arith)), h.third);
+        fourth = omega (arith, ap nat_abs (exact-slice s n 3 (n + 3) l (omega arith)), h.fourth);
+      },
+    )
 
 pub loop-i-preserved : goal.loop-i-preserved
 loop-i-preserved c =
-    let t = c.row-t in (
-      omega arith,
-      rows-turn t.result c.loop-i.invariant.1 c.loop-i-test.true t.ensures
-          (back w32 c.y-1.given refl)
-          (back w32 c.y-in-loop-i-1.given refl)
-          (back w32 c.y-in-loop-i-2-1.given refl)
-          (back w32 c.y-in-loop-i-3-1.given refl),
-    )
-
-pub returns : goal.returns
-returns c =
-    let e : c.loop-i.i ≡ 16 = omega arith in
-    rw e at c.loop-i.invariant.1
-
-pub overflow_mul-i : goal.overflow_mul-i
-overflow_mul-i c = omega arith
-
-pub overflow_add-at : goal.overflow_add-at
-overflow_add-at c = omega arith
-
-pub overflow_mul-y : goal.overflow_mul-y
-overflow_mul-y c = omega arith
-
-pub offset_bounds-y-i : goal.offset_bounds-y-i
-offset_bounds-y-i c = omega arith
-
-pub bounds-y-i : goal.bounds-y-i
-bounds-y-i c = omega arith
-
-pub overflow_mul-y-in-loop-i : goal.overflow_mul-y-in-loop-i
-overflow_mul-y-in-loop-i c = omega arith
-
-pub overflow_add-y : goal.overflow_add-y
-overflow_add-y c = omega arith
-
-pub offset_bounds-y-i-in-loop-i : goal.offset_bounds-y-i-in-loop-i
-offset_bounds-y-i-in-loop-i c = omega arith
-
-pub bounds-y-i-in-loop-i : goal.bounds-y-i-in-loop-i
-bounds-y-i-in-loop-i c = omega arith
-
-pub overflow_mul-y-in-loop-i-2 : goal.overflow_mul-y-in-loop-i-2
-overflow_mul-y-in-loop-i-2 c = omega arith
-
-pub overflow_add-y-in-loop-i : goal.overflow_add-y-in-loop-i
-overflow_add-y-in-loop-i c = omega arith
-
-pub offset_bounds-y-i-in-loop-i-2 : goal.offset_bounds-y-i-in-loop-i-2
-offset_bounds-y-i-in-loop-i-2 c = omega arith
-
-pub bounds-y-i-in-loop-i-2 : goal.bounds-y-i-in-loop-i-2
-bounds-y-i-in-loop-i-2 c = omega arith
-
-pub overflow_mul-y-in-loop-i-3 : goal.overflow_mul-y-in-loop-i-3
-overflow_mul-y-in-loop-i-3 c = omega arith
-
-pub overflow_add-y-in-loop-i-2 : goal.overflow_add-y-in-loop-i-2
-overflow_add-y-in-loop-i-2 c = omega arith
-
-pub offset_bounds-y-i-in-loop-i-3 : goal.offset_bounds-y-i-in-loop-i-3
-offset_bounds-y-i-in-loop-i-3 c = omega arith
-
-pub bounds-y-i-in-loop-i-3 : goal.bounds-y-i-in-loop-i-3
-bounds-y-i-in-loop-i-3 c = omega arith
-
-pub overflow_add-i : goal.overflow_add-i
-overflow_add-i c = omega arith
-
-pub loop-i-smaller : goal.loop-i-smaller
-loop-i-smaller c = omega arith
+    let e : c.row.result ≡ row_sums c.args.scale.by c.args.levels.now (4 * c.loop-i.i) = c.row.ensures ∙ row-slice _ _ _ in
+    grind (arith, common_steps)

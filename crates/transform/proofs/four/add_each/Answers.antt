@@ -1,32 +1,30 @@
--- Block after block.
-use mathlib.Core.Path.{refl, sym, ◌∙◌}
-use native.Mathlib.Omega.{arith}
-use Prim.Native.Nat.{◌+◌, ◌*◌}
-use native.Mathlib.Nat.{add-zero}
-use lib.IntN.{pos}
-use lib.ListN.{get_or}
+-- One block a turn.
+use Rattle.std.proofs.Common.{◌≡◌, ◌∙◌, ◌*◌, pos, get_or, arith, rules}
 use mir.Syntax.{w32}
-use Rattle.ints.proofs.Fits.{back}
-use Rattle.transform.specs.Residual.{placed, residual}
+use mir.Val.{SFits}
+use mir.Facts.{to_z-of_z}
+use Rattle.transform.specs.Residual.{residual}
 use Rattle.transform.specs.Added.{added}
-use Rattle.transform.proofs.Square.{inside-high, four-added}
+use Rattle.transform.proofs.Slices.{placed-rest}
+use Rattle.transform.proofs.Squares.{none-added, one-added, all-added}
 use Rattle.transform.proofs.four.add_each.Goals as goal
 
-pub overflow_add-y : goal.overflow_add-y
-overflow_add-y c = omega (arith, inside-high c.requires.inside)
+pub loop-b-init : goal.loop-b-init
+loop-b-init c = none-added _ _ _ _ _
 
-pub overflow_add-y-2 : goal.overflow_add-y-2
-overflow_add-y-2 c = omega (arith, inside-high c.requires.inside)
+pub loop-b-preserved : goal.loop-b-preserved
+loop-b-preserved c =
+    let a = c.args in
+    let b = c.loop-b.b in
+    let f : SFits w32 (get_or a.dc.now b (pos 0)) = search rules in
+    let d = to_z-of_z f in
+    let e = c.block.ensures in
+    let l = placed-rest (16 * b) a.levels.now in
+    one-added _ _ _ _ _ b c.loop-b.invariant
+    (c.add_block.ensures ∙ (λ i. added c.loop-b.plane (e i).stride (e i).x (e i).y (residual a.scale.by (d i) (l i))))
 
 pub returns : goal.returns
 returns c =
-    let d0 = back w32 {z = get_or c.args.dc 0 (pos 0)} c.add_block-arg-2-1.given refl in
-    let d1 = back w32 {z = get_or c.args.dc 1 (pos 0)} c.add_block-arg-4-1.given refl in
-    let d2 = back w32 {z = get_or c.args.dc 2 (pos 0)} c.add_block-arg-6-1.given refl in
-    let d3 = back w32 {z = get_or c.args.dc 3 (pos 0)} c.add_block-arg-8-1.given refl in
-    let a0 = sym (add-zero c.args.at) in
-    four-added (λ b. residual c.args.scale (get_or c.args.dc b (pos 0)) (placed c.args.levels.now (c.args.at + 16 * b))) c.args.stride c.args.x c.args.y c.args.plane.now
-    (c.add_block.ensures ∙ (λ i. added c.args.plane.now c.args.stride c.args.x c.args.y (residual c.args.scale (d0 i) (placed c.args.levels.now (a0 i)))))
-    (c.add_block-2.ensures ∙ (λ i. added c.add_block.new.plane c.args.stride (c.args.x + 4) c.args.y (residual c.args.scale (d1 i) (placed c.args.levels.now (c.args.at + 16)))))
-    (c.add_block-3.ensures ∙ (λ i. added c.add_block-2.new.plane c.args.stride c.args.x (c.args.y + 4) (residual c.args.scale (d2 i) (placed c.args.levels.now (c.args.at + 32)))))
-    (c.add_block-4.ensures ∙ (λ i. added c.add_block-3.new.plane c.args.stride (c.args.x + 4) (c.args.y + 4) (residual c.args.scale (d3 i) (placed c.args.levels.now (c.args.at + 48)))))
+    let a = c.args in
+    let e : c.loop-b.b ≡ 4 = omega arith in
+    c.loop-b.invariant ∙ rw e (all-added _ _ _ _ _)

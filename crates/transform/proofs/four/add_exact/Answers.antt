@@ -1,48 +1,66 @@
--- The residuals of the four blocks, added block after block.
-use mathlib.Core.Path.{◌∙◌}
-use borrow.Author.Rules.{rules}
-use native.Mathlib.Omega.{arith}
-use Prim.Native.Nat.{◌+◌, ◌*◌}
-use lib.Dec.{lit<}
-use lib.IntN.{pos}
-use lib.ListN.{get_or}
-use Rattle.transform.specs.Residual.{placed, residual}
+-- One block a turn: its columns are its residuals.
+use Rattle.std.proofs.Common.{◌≡◌, ◌∙◌, ap, ◌*◌, ◌-◌, pos, nat_abs, length, take, drop, get_or, sym, subst, length-drop, arith, rules}
+use Rattle.std.proofs.lemmas.List.{take_all}
+use mir.Syntax.{w32}
+use mir.Val.{SFits}
+use mir.Facts.{to_z-of_z}
+use Rattle.transform.specs.declared.Square.{Square}
+use Rattle.transform.specs.Residual.{placed}
+use Rattle.transform.specs.Added.{added}
+use Rattle.transform.specs.InnerFour.{SquareIn}
+use Rattle.transform.specs.InnerPasses.{Columns}
 use Rattle.transform.proofs.Laws.{added-values}
-use Rattle.transform.proofs.Square.{inside-high, inside-lower-right, four-added}
-use Rattle.transform.proofs.Unsaturated.{block-is, block-short}
+use Rattle.transform.proofs.Unsaturated.{block-abs, block-is, block-short}
+use Rattle.transform.proofs.Squares.{inside-block, none-added, one-added, all-added}
+use Rattle.transform.proofs.four.add_exact.Goals.{In-loop-b, After-columns-r}
 use Rattle.transform.proofs.four.add_exact.Goals as goal
+
+-- the rows of the blocks from this one on
+rest : (c : In-loop-b) → let y = c.rows-rows.result in take (16 - 4 * c.loop-b.b) (drop (4 * c.loop-b.b) y) ≡ drop (4 * c.loop-b.b) y
+rest c =
+    let y = c.rows-rows.result in
+    take_all _ _ (omega (arith, length-drop (4 * c.loop-b.b) y, c.rows-rows.ensures.size))
+
+-- the columns, at the DC of the turn
+turned : (c : After-columns-r) → Columns (drop (4 * c.loop-b.b) c.rows-rows.result) (get_or c.args.dc.now c.loop-b.b (pos 0)) 4 c.columns-r.result
+turned c =
+    let f : SFits w32 (get_or c.args.dc.now c.loop-b.b (pos 0)) = search rules in
+    let d = to_z-of_z f in
+    let e = rest (goal.at.After-columns-r c).In-loop-b in
+    rw (e, d) at c.columns-r.ensures
+
+pub loop-b-init : goal.loop-b-init
+loop-b-init c = none-added _ _ _ _ _
+
+pub columns-r-requires : goal.columns-r-requires
+columns-r-requires c =
+    let b = c.loop-b.b in
+    let y = c.rows-rows in
+    let f : SFits w32 (get_or c.args.dc.now b (pos 0)) = search rules in
+    rw (rest (goal.at.columns-r-requires c).In-loop-b)
+    (omega (arith, length-drop (4 * b) y.result, y.ensures.size), omega (arith, ap nat_abs (to_z-of_z f), c.requires.exact.1 b c.loop-b-test.true), block-abs c.requires.exact.0 y.result y.ensures b)
 
 pub reconstruct_4x4-requires : goal.reconstruct_4x4-requires
 reconstruct_4x4-requires c =
-    let r = c.residuals-r in
-    (search rules, block-short c.requires.exact.0 c.args.dc 0 (c.requires.exact.1 0 (lit< tt)) r.ensures (lit< tt) c.block.ensures)
+    let b = c.loop-b.b in
+    let y = c.rows-rows in
+    let P : Square → Type 0 = λ q. SquareIn q 4 (length c.loop-b.plane) in (
+      subst P (sym c.block.ensures) (inside-block b c.loop-b-test.true c.requires.inside c.loop-b.auto.plane),
+      block-short c.requires.exact.0 b c.loop-b-test.true y.result y.ensures _ c.columns-r.result (turned (goal.at.reconstruct_4x4-requires c).After-columns-r) (c.requires.exact.1 b c.loop-b-test.true),
+    )
 
-pub reconstruct_4x4-requires-2 : goal.reconstruct_4x4-requires-2
-reconstruct_4x4-requires-2 c =
-    let r = c.residuals-r in
-    (search rules, block-short c.requires.exact.0 c.args.dc 1 (c.requires.exact.1 1 (lit< tt)) r.ensures (lit< tt) c.block-2.ensures)
-
-pub overflow_add-y : goal.overflow_add-y
-overflow_add-y c = omega (arith, inside-high c.requires.inside)
-
-pub reconstruct_4x4-requires-3 : goal.reconstruct_4x4-requires-3
-reconstruct_4x4-requires-3 c =
-    let r = c.residuals-r in
-    (search rules, block-short c.requires.exact.0 c.args.dc 2 (c.requires.exact.1 2 (lit< tt)) r.ensures (lit< tt) c.block-3.ensures)
-
-pub overflow_add-y-2 : goal.overflow_add-y-2
-overflow_add-y-2 c = omega (arith, inside-high c.requires.inside)
-
-pub reconstruct_4x4-requires-4 : goal.reconstruct_4x4-requires-4
-reconstruct_4x4-requires-4 c =
-    let r = c.residuals-r in
-    (inside-lower-right c.requires.inside (omega (arith, c.reconstruct_4x4-3.auto.plane, c.reconstruct_4x4-2.auto.plane, c.reconstruct_4x4.auto.plane)), block-short c.requires.exact.0 c.args.dc 3 (c.requires.exact.1 3 (lit< tt)) r.ensures (lit< tt) c.block-4.ensures)
+pub loop-b-preserved : goal.loop-b-preserved
+loop-b-preserved c =
+    let b = c.loop-b.b in
+    let y = c.rows-rows in
+    let p = c.loop-b.plane in
+    let e = c.block.ensures in
+    one-added _ _ _ _ _ b c.loop-b.invariant
+    (c.reconstruct_4x4.ensures
+    ∙ (λ i. added p (e i).stride (e i).x (e i).y (placed c.columns-r.result 0))
+    ∙ added-values p _ _ _ _ _ (block-is c.requires.exact.0 b c.loop-b-test.true y.result y.ensures _ c.columns-r.result (turned (goal.at.loop-b-preserved c).After-columns-r)))
 
 pub returns : goal.returns
 returns c =
-    let r = c.residuals-r in
-    four-added (λ b. residual c.args.scale (get_or c.args.dc b (pos 0)) (placed c.args.levels.now (c.args.at + 16 * b))) c.args.stride c.args.x c.args.y c.args.plane.now
-    (c.reconstruct_4x4.ensures ∙ added-values c.args.plane.now c.args.stride c.args.x c.args.y _ _ (block-is c.requires.exact.0 c.args.dc 0 r.ensures (lit< tt) c.block.ensures))
-    (c.reconstruct_4x4-2.ensures ∙ added-values c.reconstruct_4x4.new.plane c.args.stride (c.args.x + 4) c.args.y _ _ (block-is c.requires.exact.0 c.args.dc 1 r.ensures (lit< tt) c.block-2.ensures))
-    (c.reconstruct_4x4-3.ensures ∙ added-values c.reconstruct_4x4-2.new.plane c.args.stride c.args.x (c.args.y + 4) _ _ (block-is c.requires.exact.0 c.args.dc 2 r.ensures (lit< tt) c.block-3.ensures))
-    (c.reconstruct_4x4-4.ensures ∙ added-values c.reconstruct_4x4-3.new.plane c.args.stride (c.args.x + 4) (c.args.y + 4) _ _ (block-is c.requires.exact.0 c.args.dc 3 r.ensures (lit< tt) c.block-4.ensures))
+    let e : c.loop-b.b ≡ 4 = omega arith in
+    c.loop-b.invariant ∙ rw e (all-added _ _ _ _ _)

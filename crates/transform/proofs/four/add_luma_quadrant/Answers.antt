@@ -1,24 +1,20 @@
 -- The quantiser's entry, and no DC.
-use mathlib.Core.Path.{◌∙◌}
-use mathlib.Core.List.{[], ◌∷◌}
-use native.Mathlib.Omega.{arith}
-use Prim.Native.Nat.{◌+◌, ◌*◌}
-use lib.IntN.{pos}
-use lib.ListN.{get_or}
+use Rattle.std.proofs.Common.{◌∙◌, [], ◌∷◌, ◌*◌, pos, get_or, arith}
 use Rattle.transform.specs.Residual.{placed, residual}
 use Rattle.transform.specs.InnerResidual.{luma_residual}
 use Rattle.transform.specs.InnerFour.{added_four}
 use Rattle.transform.proofs.Tables.{entry}
 use Rattle.transform.proofs.four.add_luma_quadrant.Goals as goal
 
-pub add_four-requires : goal.add_four-requires
-add_four-requires c =
-    let e = entry c.args.q c.requires.at_in_bounds.1 in
-    record { inside = c.requires.inside; at_in_bounds = (c.requires.at_in_bounds.0, omega (arith, c.dequant_coeff.ensures), omega (arith, c.dequant_coeff.ensures)) }
+pub add_four-requires-clause-levels : goal.add_four-requires-clause-levels
+add_four-requires-clause-levels c =
+    let e = entry c.args.q c.requires.levels.1 in
+    (c.requires.levels.0, omega (arith, c.dequant_coeff.ensures))
 
 pub returns : goal.returns
 unfolding added_four luma_residual
 returns c =
+    let a = c.args in
     let e = c.dequant_coeff.ensures in
     c.add_four.ensures
-    ∙ (λ i. added_four c.args.plane.now c.args.stride c.args.x c.args.y (λ b. residual (e i) (get_or (pos 0 ∷ pos 0 ∷ pos 0 ∷ pos 0 ∷ []) b (pos 0)) (placed c.args.levels.now (c.args.at + 16 * b))))
+    ∙ (λ i. added_four a.plane.now a.s.stride a.s.x a.s.y (λ b. residual (e i) (get_or (pos 0 ∷ pos 0 ∷ pos 0 ∷ pos 0 ∷ []) b (pos 0)) (placed a.levels.now (16 * b))))

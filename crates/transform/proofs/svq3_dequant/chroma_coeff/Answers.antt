@@ -1,6 +1,5 @@
 -- The entry at the chroma index.
-use mathlib.Core.Path.{◌∙◌, ap}
-use native.Mathlib.Omega.{arith}
+use Rattle.std.proofs.Common.{◌∙◌, ap, arith}
 use Rattle.transform.specs.Tables.{dequant_coeff, chroma_coeff}
 use Rattle.transform.proofs.Tables.{index}
 use Rattle.transform.proofs.svq3_dequant.chroma_coeff.Goals as goal

@@ -1,37 +1,24 @@
 -- The entry at the chroma index scales each of the four levels.
-use mathlib.Core.Path.{◌≡◌, ◌∙◌, ap}
+use Rattle.std.proofs.Common.{get_or, pos, ◌*ℤ◌, rules, ◌∙◌}
 use mir.Syntax.{w32}
-use Prim.Native.Nat.{ℕ, ◌≤◌, ◌+◌}
-use native.Mathlib.Omega.{arith}
+use mir.Val.{SFits}
+use mir.Facts.{to_z-of_z}
+use Rattle.ints.specs.Z.{sat_z}
 use Rattle.ints.proofs.Fits.{back}
-use Rattle.transform.specs.Tables.{chroma_coeff}
 use Rattle.transform.specs.ChromaDc.{secondary, scaled_at, chroma_dc}
-use Rattle.transform.proofs.Tables.{chroma-entry}
-use Rattle.transform.proofs.svq3_dequant.dequantize_chroma_dc_levels.Goals.{After-chroma_coeff-scale}
 use Rattle.transform.proofs.svq3_dequant.dequantize_chroma_dc_levels.Goals as goal
 
-small : (c : After-chroma_coeff-scale) → c.chroma_coeff-scale.result ≤ 141533
-small c = omega (arith, c.chroma_coeff-scale.ensures, chroma-entry c.args.q c.requires.1)
-
 pub returns : goal.returns
-unfolding chroma_dc
+unfolding chroma_dc scaled_at
 returns c =
     let a = c.args in
-    let by : (n : ℕ) → scaled_at c.chroma_coeff-scale.result a.levels.now n ≡ scaled_at (chroma_coeff a.q) a.levels.now n = λ n. ap (λ s. scaled_at s a.levels.now n) c.chroma_coeff-scale.ensures in
-    let e1 = back w32 c.scale_level-a.type_inv (c.scale_level-a.ensures ∙ by a.at) in
-    let e2 = back w32 c.scale_level-b.type_inv (c.scale_level-b.ensures ∙ by (a.at + 1)) in
-    let e3 = back w32 c.scale_level-c.type_inv (c.scale_level-c.ensures ∙ by (a.at + 2)) in
-    let e4 = back w32 c.scale_level-d.type_inv (c.scale_level-d.ensures ∙ by (a.at + 3)) in
+    let s = c.chroma_coeff-scale.ensures in
+    let l0 : SFits w32 (get_or a.levels.now 0 (pos 0)) = search rules in
+    let l1 : SFits w32 (get_or a.levels.now 1 (pos 0)) = search rules in
+    let l2 : SFits w32 (get_or a.levels.now 2 (pos 0)) = search rules in
+    let l3 : SFits w32 (get_or a.levels.now 3 (pos 0)) = search rules in
+    let e1 = back w32 c.scale_level-a.type_inv (c.scale_level-a.ensures ∙ (λ i. sat_z (to_z-of_z l0 i *ℤ pos (s i)))) in
+    let e2 = back w32 c.scale_level-b.type_inv (c.scale_level-b.ensures ∙ (λ i. sat_z (to_z-of_z l1 i *ℤ pos (s i)))) in
+    let e3 = back w32 c.scale_level-c.type_inv (c.scale_level-c.ensures ∙ (λ i. sat_z (to_z-of_z l2 i *ℤ pos (s i)))) in
+    let e4 = back w32 c.scale_level-d.type_inv (c.scale_level-d.ensures ∙ (λ i. sat_z (to_z-of_z l3 i *ℤ pos (s i)))) in
     c.chroma_dc_secondary_transform.ensures ∙ (λ i. secondary (e1 i) (e2 i) (e3 i) (e4 i))
-
-pub scale_level-a-requires : goal.scale_level-a-requires
-scale_level-a-requires c = omega (arith, small c)
-
-pub scale_level-b-requires : goal.scale_level-b-requires
-scale_level-b-requires c = omega (arith, small (goal.at.scale_level-b-requires c).After-chroma_coeff-scale)
-
-pub scale_level-c-requires : goal.scale_level-c-requires
-scale_level-c-requires c = omega (arith, small (goal.at.scale_level-c-requires c).After-chroma_coeff-scale)
-
-pub scale_level-d-requires : goal.scale_level-d-requires
-scale_level-d-requires c = omega (arith, small (goal.at.scale_level-d-requires c).After-chroma_coeff-scale)

@@ -1,5 +1,5 @@
 -- Scaled, the rows, the columns, rounded: each step is what the last gave.
-use mathlib.Core.Path.{◌∙◌, ap}
+use Rattle.std.proofs.Common.{◌∙◌, ap}
 use mir.Facts.{to_z-of_z}
 use Rattle.transform.specs.Residual.{placed, listed}
 use Rattle.transform.specs.InnerArrays.{shortened, finished}
@@ -12,5 +12,5 @@ returns c =
     let x = c.scale_luma_block_by_quantiser-x in
     let y = c.apply_luma_transform_rows-y in
     let z = c.apply_luma_transform_rows-z in
-    two-passes c.args.scale c.args.dc (placed c.args.levels.now c.args.at) x.ensures y.ensures z.ensures
+    two-passes c.args.scale.by c.args.dc (placed c.args.levels.now 0) x.ensures y.ensures z.ensures
     (c.finish_block.ensures ∙ ap (λ d. listed (shortened (finished d (placed z.result 0)))) dc)

@@ -1,13 +1,8 @@
 -- One sample a turn; what a turn reads, no turn before it wrote.
-use mathlib.Core.Path.{◌≡◌}
-use Prim.Native.Nat.{◌≤◌, ◌-◌}
-use lib.ListN.{length}
+use Rattle.std.proofs.Common.{◌≡◌}
 use Rattle.picture.specs.InnerRows.{row}
 use Rattle.transform.specs.InnerArrays.{reconstructed_at}
 use Rattle.transform.proofs.svq3_pred.add_row.Given as goal
 
 abbrev pub invariant-loop-c : goal.invariant-loop-c
-invariant-loop-c l = (l.c ≤ 4) × (length l.plane ≡ length l.initial.plane) × (l.plane ≡ row l.initial.plane l.at (reconstructed_at l.initial.plane l.at l.residual l.from) l.c)
-
-abbrev pub decreases-loop-c : goal.decreases-loop-c
-decreases-loop-c l = 4 - l.c
+invariant-loop-c l = l.plane ≡ row l.initial.plane l.at (reconstructed_at l.initial.plane l.at l.residual l.from) l.c

@@ -1,7 +1,5 @@
 -- The residuals are held, and added as if they were not.
-use mathlib.Core.Path.{◌∙◌, ap, sym, subst}
-use borrow.Author.Rules.{rules}
-use native.Mathlib.Omega.{arith}
+use Rattle.std.proofs.Common.{◌∙◌, ap, sym, subst, arith, rules}
 use mir.Facts.{to_z-of_z}
 use Rattle.transform.specs.Residual.{placed, residual}
 use Rattle.transform.specs.Added.{added}
@@ -14,6 +12,7 @@ reconstruct_4x4-requires c = (search rules, subst Short (sym c.dequantize_transf
 
 pub returns : goal.returns
 returns c =
+    let s = c.args.s in
     c.reconstruct_4x4.ensures
-    ∙ added-listed c.args.plane.now c.args.stride c.args.x c.args.y _ c.dequantize_transform_luma_block_with_dc-r.ensures (λ n. omega (arith, c.slice_known-1.given n))
-    ∙ ap (λ d. added c.args.plane.now c.args.stride c.args.x c.args.y (residual c.args.scale d (placed c.args.levels.now c.args.at))) (to_z-of_z c.ranges.dc)
+    ∙ added-listed c.args.plane.now s.stride s.x s.y _ c.dequantize_transform_luma_block_with_dc-r.ensures (λ n. omega (arith, c.slice_known-1.given n))
+    ∙ ap (λ d. added c.args.plane.now s.stride s.x s.y (residual c.args.scale.by d (placed c.args.levels.now 0))) (to_z-of_z c.ranges.dc)

@@ -1,10 +1,5 @@
 -- Without levels each residual is the DC, rounded.
-use mathlib.Core.Path.{◌≡◌, ◌∙◌, ap, sym, subst}
-use borrow.Author.Rules.{rules}
-use native.Mathlib.Omega.{arith}
-use Prim.Native.Nat.{ℕ}
-use lib.IntN.{pos}
-use lib.ListN.{replicate}
+use Rattle.std.proofs.Common.{◌≡◌, ◌∙◌, ap, sym, subst, ℕ, pos, replicate, arith, rules}
 use mir.Syntax.{w16}
 use mir.Facts.{to_z-of_z}
 use Rattle.ints.proofs.Fits.{read, back}
@@ -24,7 +19,8 @@ reconstruct_4x4-requires c = (search rules, subst Short (sym (sixteen (goal.at.r
 
 pub returns : goal.returns
 returns c =
+    let s = c.args.s in
     λ scale.
     c.reconstruct_4x4.ensures
-    ∙ added-listed c.args.plane.now c.args.stride c.args.x c.args.y _ (sixteen (goal.at.returns c).After-finish-v) (λ n. omega (arith, c.slice_known-1.given n))
-    ∙ ap (added c.args.plane.now c.args.stride c.args.x c.args.y) (sym (dc-only scale c.args.dc))
+    ∙ added-listed c.args.plane.now s.stride s.x s.y _ (sixteen (goal.at.returns c).After-finish-v) (λ n. omega (arith, c.slice_known-1.given n))
+    ∙ ap (added c.args.plane.now s.stride s.x s.y) (sym (dc-only scale c.args.dc))
