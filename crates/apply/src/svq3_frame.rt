@@ -23,10 +23,10 @@ fn over(chroma: bool, v: usize) -> usize
 }
 
 // A vector as a plane has it: chroma halves it toward zero.
-fn vector_over(chroma: bool, v: i32) -> i32
-    ensures { result ≡ toward_zero v (unit chroma) }
+fn vector_over(chroma: bool, component: i32) -> i32
+    ensures { result ≡ toward_zero component (unit chroma) }
 {
-    if chroma { v / 2 } else { v }
+    if chroma { component / 2 } else { component }
 }
 
 // Where partition i lies in a plane of a picture of that grid.
