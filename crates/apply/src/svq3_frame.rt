@@ -9,7 +9,6 @@ ghost use Rattle.apply.specs.Moved.{unit, vector_x, vector_y, moved_once, moved_
 ghost use Rattle.apply.specs.InnerMoved.{PlanesSized, part_block};
 
 use compensation::svq3_mc::{Taps, compensate_both, compensate_taps, taps_of};
-use ints::half_toward_zero;
 use picture::{Block, Grid, Size};
 use state::Call;
 use vectors::svq3_mb::{
@@ -24,10 +23,10 @@ fn over(chroma: bool, v: usize) -> usize
 }
 
 // A vector as a plane has it: chroma halves it toward zero.
-fn vector_over(chroma: bool, v: i32) -> i32
-    ensures { result ≡ toward_zero v (unit chroma) }
+fn vector_over(chroma: bool, component: i32) -> i32
+    ensures { result ≡ toward_zero component (unit chroma) }
 {
-    if chroma { half_toward_zero(v) } else { v }
+    if chroma { component / 2 } else { component }
 }
 
 // Where partition i lies in a plane of a picture of that grid.

@@ -38,7 +38,7 @@ or_no : (s t : Bool) → (s || t) ≡ false → (s ≡ false) × (t ≡ false)
 or_no true t e = absurd (true≢false e)
 or_no false t e = (refl, e)
 
-over_no : (z : ℤ) → over_z z ≡ false → SFits w32 z
+pub over_no : (z : ℤ) → over_z z ≡ false → SFits w32 z
 unfolding over_z
 over_no z e = let k = or_no (lt_z z least_i32) (lt_z most_i32 z) e in record { sfits = omega (arith, z-rules, mag-z z) }
 

@@ -3,3 +3,4 @@ pub mod Fits
 pub mod Same
 pub mod Linear
 pub mod Laws
+pub mod Words

@@ -10,19 +10,12 @@ use Prim.Native.Nat.{ℕ, zero, suc, ◌+◌, ◌*◌, ◌/◌, ◌≤◌, ◌<�
 use native.Mathlib.Nat.{div-add-mod, mod-lt, zero-div}
 use native.Mathlib.Omega.{arith}
 use borrow.Author.Tests.{ltb-true, ltb-false, leb-true, leb-false, lt-ltb, le-ltb, le-leb, lt-leb}
+pub use borrow.Author.Differences.{up, down}
 use lib.Dec.{T}
 use lib.IntN.{ℤ, pos, negsuc, neg_ℤ, nat_abs, sub_ℕ, ◌+ℤ◌, ◌-ℤ◌, ◌*ℤ◌, *ℤ_comm}
 use lib.Signed.{mag, non_neg, lt_z, le_z, quot_z}
 use Rattle.ints.specs.Z.{min_z, max_z, clamp_z, sat_z, clip1_z, floor_z, mod_z, least_i32, most_i32}
 use Rattle.ints.proofs.Fits.{sub-ind, if-ind, clamp-ind}
-
-abbrev pub up : ℤ → ℕ
-up (pos n) = n
-up (negsuc n) = 0
-
-abbrev pub down : ℤ → ℕ
-down (pos n) = 0
-down (negsuc n) = suc n
 
 -- ---- what is known
 pub of_eq : (x y : ℤ) → x ≡ y → up x + down y ≡ up y + down x
@@ -132,7 +125,7 @@ pub min-z : (x y : ℤ) → up (min_z x y) + (down x + down y) ≡ down (min_z x
 unfolding min_z
 min-z x y = if-ind (λ z. up z + (down x + down y) ≡ down z + min (up x + down y) (up y + down x)) (lt_z x y) x y (λ e. omega (arith, z-rules)) (λ e. omega (arith, z-rules))
 
-max-z : (x y : ℤ) → up (max_z x y) + (down x + down y) ≡ down (max_z x y) + max (up x + down y) (up y + down x)
+pub max-z : (x y : ℤ) → up (max_z x y) + (down x + down y) ≡ down (max_z x y) + max (up x + down y) (up y + down x)
 unfolding max_z
 max-z x y = if-ind (λ z. up z + (down x + down y) ≡ down z + max (up x + down y) (up y + down x)) (lt_z x y) y x (λ e. omega (arith, z-rules)) (λ e. omega (arith, z-rules))
 

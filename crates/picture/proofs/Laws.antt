@@ -11,8 +11,9 @@ use native.Mathlib.Omega.{arith}
 use lib.Dec.{leb, ltb}
 use lib.Arith.{digits_div, digits_mod}
 use lib.ListN.{length, get_or, set, length-set}
-use lib.Seq.{get_or-set_same, get_or-set_other, ext_get_or}
+use lib.Seq.{paste, get_or-set_same, get_or-set_other, ext_get_or}
 use borrow.Author.Tests.{ltb-true, leb-true, lt-ltb, le-leb}
+use Rattle.std.proofs.lemmas.List.Edits.{paste_none, paste_more}
 use Rattle.picture.specs.Painted.{each_at, within, inside, painted, Inside}
 use Rattle.picture.specs.Picture.{seen, copied}
 use Rattle.picture.specs.InnerPicture.{Within}
@@ -58,6 +59,14 @@ module _ {A : Type 0} where
       (λ e. rw e (get_or-set_same (row l at v n) (at + n) (v n) d (omega (arith, row-length l at v n))))
       (λ lt. get_or-set_other (row l at v n) (at + n) (at + k) (v n) d (omega arith) ∙ row_same l at v n k d lt (omega arith))
       (eq-or-lt_of_le (le_of_suc-le-suc h))
+
+  -- a row stored at once, as by `copy_from_slice`
+  pub row-paste : (l : List A) (at : ℕ) (v : ℕ → A) (s : List A) (d : A) (n : ℕ) → at + n ≤ length l → n ≤ length s → ((k : ℕ) → k < n → get_or s k d ≡ v k) → paste l at s n ≡ row l at v n
+  unfolding row
+  row-paste l at v s d zero f g e = sym (paste_none l at s)
+  row-paste l at v s d (suc n) f g e =
+      rw (← add-one n) (sym (paste_more l at s n d (omega arith) (omega arith)))
+      ∙ (λ i. set (row-paste l at v s d n (omega arith) (omega arith) (λ k h. e k (omega arith)) i) (at + n) (e n (omega arith) i))
 
   -- a turn of a loop that stores a row
   pub row_more : {l : List A} (l₀ : List A) (at : ℕ) (v : ℕ → A) (n : ℕ) {x : A} → l ≡ row l₀ at v n → x ≡ v n → set l (at + n) x ≡ row l₀ at v (n + 1)

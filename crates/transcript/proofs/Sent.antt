@@ -7,13 +7,12 @@ use mathlib.Core.Logic.{⊎_elim}
 use Prim.Native.Nat.{ℕ, zero, suc, ◌+◌, ◌-◌, ◌*◌, ◌%◌, ◌≤◌, ◌<◌, min}
 use native.Mathlib.Numerals.{add-one}
 use native.Mathlib.Omega.{arith}
-use borrow.Author.Tests.{leb-true, ltb-true, ltb-false, lt-ltb, le-ltb}
+use borrow.Author.Tests.{leb-true, ltb-true, lt-ltb, le-ltb}
 use lib.Dec.{leb, ltb}
-use lib.IntN.{ℤ, pos, negsuc, ◌+ℤ◌}
+use lib.IntN.{ℤ, pos, negsuc}
 use lib.ListN.{length, get_or, take, drop, set, length-set, length-drop, length-map, get_or-map}
 use lib.Seq.{sets, take-suc, length-take-le, get_or-set_same, get_or-set_other, get_or-take, get_or-drop}
-use Rattle.ints.specs.Z.{when◌then◌else◌, clamp_z}
-use Rattle.ints.proofs.Fits.{sub-ind}
+use Rattle.ints.specs.Z.{when◌then◌else◌}
 use Rattle.number.specs.Number.{number}
 use Rattle.number.specs.SignedNumber.{sent, signed_number}
 use Rattle.number.proofs.Numbers.{lt-or-le, one-group}
@@ -41,19 +40,6 @@ short-each t (suc n) e k h =
     (lt-or-le k n)
 
 -- ---- a number held in -128 to 127
-pub held-is : (z : ℤ) → clamp_z (negsuc 127) (pos 127) z +ℤ pos 128 ≡ pos (held_of z)
-unfolding clamp_z held_of when◌then◌else◌
-held-is (pos n) = go (ltb 127 n) refl
-  where
-    go : (t : Bool) → ltb 127 n ≡ t → (when t then pos 127 else pos n) +ℤ pos 128 ≡ pos (128 + min n 127)
-    go true e = ap pos (omega (arith, ltb-true 127 n e))
-    go false e = ap pos (omega (arith, ltb-false 127 n e))
-held-is (negsuc n) = go (ltb 127 n) refl
-  where
-    go : (t : Bool) → ltb 127 n ≡ t → (when t then negsuc 127 else negsuc n) +ℤ pos 128 ≡ pos (127 - n)
-    go true e = ap pos (omega (arith, ltb-true 127 n e))
-    go false e = sub-ind (λ z. z ≡ pos (127 - n)) 128 (suc n) (λ k h. absurd (omega (arith, ltb-false 127 n e))) (λ k h. ap pos (omega (arith, ltb-false 127 n e)))
-
 pub held_small : (z : ℤ) → held_of z < 256
 unfolding held_of
 held_small (pos n) = omega arith

@@ -9,7 +9,6 @@ ghost use Rattle.transcript.specs.Written.{Written};
 ghost use Rattle.transcript.specs.InnerSent.{held_of, sent_short, short_sent, Held};
 ghost use Rattle.record.specs.Range.{HeadRange};
 
-use ints::clamp_i32;
 use levels::svq3_cbp::{chroma_class, luma_quadrant_coded};
 use levels::svq3_coeff::ResidualBook;
 use number::{put_number, put_signed_number};
@@ -38,7 +37,7 @@ fn put_signed_numbers(
 fn held_of(v: i32) -> u8
     ensures { result ≡ held_of v }
 {
-    (clamp_i32(v, -128, 127) + 128) as u8
+    (v.clamp(-128, 127) + 128) as u8
 }
 
 // What a short number is sent as, by its `held_of`. Numbers from -64 to 63 are short: one byte each.

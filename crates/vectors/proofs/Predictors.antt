@@ -1,21 +1,18 @@
 -- Laws of the prediction: how many neighbours there are, and where a held predictor lies.
 -- Assumes nothing.
-use mathlib.Core.Path.{◌≡◌, refl, ap, ◌∙◌}
+use mathlib.Core.Path.{◌≡◌, refl, ◌∙◌}
 use mathlib.Core.Bool.{Bool, true, false, ◌||◌}
 use mathlib.Core.List.{List}
-use Prim.Native.Nat.{ℕ, ◌+◌, ◌-◌, ◌*◌, ◌^◌, ◌≤◌, ◌<◌, zero-le}
+use Prim.Native.Nat.{ℕ, ◌+◌, ◌-◌, ◌*◌, ◌≤◌, ◌<◌, zero-le}
 use native.Mathlib.Omega.{arith}
 use borrow.Author.Tests.{lt-ltb, le-ltb}
 use lib.Dec.{eqb}
 use lib.ListN.{get_or}
-use lib.IntN.{ℤ, pos, nat_abs, ◌+ℤ◌, ◌-ℤ◌, ◌*ℤ◌}
-use lib.Signed.{mag}
+use lib.IntN.{ℤ, pos, nat_abs, ◌+ℤ◌, ◌-ℤ◌}
 use mir.Syntax.{w32, w64}
 use mir.Val.{to_z, bool_byte}
-use mir.Facts.{to_z-of_z}
 use Rattle.ints.specs.Z.{when◌then◌else◌, clamp_z}
-use Rattle.ints.proofs.Fits.{read, cast-pos, mag-add, if_yes, if_no}
-use Rattle.ints.proofs.Same.{reads}
+use Rattle.ints.proofs.Fits.{if_yes, if_no}
 use Rattle.ints.proofs.Linear.{z-rules, diff-z, abs-z, mag-z}
 use Rattle.ints.proofs.Laws.{clamp-low, clamp-high}
 use Rattle.vectors.specs.Predict.{vector, cell_at, present, or_else, vector_of, median_of, combined, held_in}
@@ -70,16 +67,6 @@ module _ (mv : List ℤ) (marks : List ℕ) where
       ∙ several (Some (at a)) (Some (at b)) (Some (at c)) refl refl refl (omega arith)
 
 -- ---- held in the picture
--- six for each sample, as the machine computes it
-pub sixfold : (n : ℕ) → n < 65537 → read w64 (pos 6 *ℤ to_z w64 n) ≡ pos (6 * n)
-sixfold n h = ap (λ z. read w64 (pos 6 *ℤ z)) (cast-pos w64 65537 n h tt) ∙ to_z-of_z {w = w64} {z = pos (6 * n)} (record { sfits = omega arith })
-
--- and a component added to it
-pub shifted : (place : ℕ) (p : ℤ) → place < 65537 → mag p < 2 ^ 31 → read w64 (read w64 (pos 6 *ℤ to_z w64 place) +ℤ read w64 (read w32 p)) ≡ pos (6 * place) +ℤ p
-shifted place p h f =
-    let wide : read w64 (read w32 p) ≡ p = search reads depth 20 in
-    (λ i. read w64 (sixfold place h i +ℤ wide i)) ∙ to_z-of_z {w = w64} {z = pos (6 * place) +ℤ p} (record { sfits = omega (arith, mag-add (pos (6 * place)) p) })
-
 module _ (side place span : ℕ) (p : ℤ) (h : place + span ≤ side) where
   pub held-size : side ≤ 65536 → nat_abs (held_in side place span p) ≤ 393216
   unfolding held_in

@@ -10,7 +10,7 @@ ghost use Rattle.vectors.specs.Units.{convert_predictor, stored_scale, stored_pa
 ghost use Rattle.vectors.specs.Stored.{pair_of, stored_vectors, stored_marks};
 
 use crate::svq3_mb::Svq3MvPrecision;
-use ints::{clamp_i64, median3, sat_add, sat_mul};
+use ints::{median3, sat_add, sat_mul};
 use picture::Grid;
 
 // A component of a stored vector or of its predictor.
@@ -59,7 +59,7 @@ pub fn held_in(side: usize, place: usize, span: usize, p: Sixths) -> Sixths
 {
     let at = 6 * (place as i64);
     let most = 6 * ((side - span) as i64);
-    Sixths((clamp_i64(at + (p.0 as i64), 0, most) - at) as i32)
+    Sixths(((at + (p.0 as i64)).clamp(0, most) - at) as i32)
 }
 
 // How many units a sample is.

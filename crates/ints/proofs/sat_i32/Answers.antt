@@ -1,19 +1,8 @@
--- The tests of the code are those of `clamp_z` at the limits of i32, and what passes both fits.
-use Rattle.ints.specs.Z.{sat_z, clamp_z}
-use Rattle.ints.proofs.Fits.{signed, branches}
+-- A clamp to the limits of i32 is `sat_z`.
+use native.Mathlib.Omega.{arith}
+use Rattle.std.proofs.lemmas.Int.{ints, clamps}
+use Rattle.ints.proofs.Linear.{sat-z, mag-z}
 use Rattle.ints.proofs.sat_i32.Goals as goal
 
-pub overflow_cast-result : goal.overflow_cast-result
-overflow_cast-result c = search signed
-
-pub returns-then-v-lt-I32_MIN : goal.returns-then-v-lt-I32_MIN
-unfolding sat_z clamp_z
-returns-then-v-lt-I32_MIN c = search branches
-
-pub returns-then-v-gt-I32_MAX : goal.returns-then-v-gt-I32_MAX
-unfolding sat_z clamp_z
-returns-then-v-gt-I32_MAX c = search branches
-
-pub returns-else-v-gt-I32_MAX : goal.returns-else-v-gt-I32_MAX
-unfolding sat_z clamp_z
-returns-else-v-gt-I32_MAX c = let h = overflow_cast-result c in search branches
+pub returns : goal.returns
+returns c = omega (arith, ints, clamps, sat-z c.args.v, mag-z c.args.v)

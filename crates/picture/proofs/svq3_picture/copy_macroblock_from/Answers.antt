@@ -12,6 +12,3 @@ copy_block-requires-2 c = (lit≤ tt, plane-inside 8 (lit< tt) c.requires.within
 
 pub copy_block-requires-3 : goal.copy_block-requires-3
 copy_block-requires-3 c = (lit≤ tt, plane-inside 8 (lit< tt) c.requires.within (search rules), plane-inside 8 (lit< tt) c.requires.within (search rules))
-
-pub returns : goal.returns
-returns c = record { luma_after = c.copy_block.ensures; cb_after = c.copy_block-2.ensures; cr_after = c.copy_block-3.ensures }
