@@ -16,7 +16,7 @@ use Rattle.record.specs.Record.{Record}
 use Rattle.record.specs.Parse.{parse_record}
 use Rattle.transcript.specs.Records.{records, records_in}
 use Rattle.transcript.specs.Check.{check_answer, checked}
-use Rattle.transcript.specs.declared.check.CheckAnswer.TheVariants.{Records, Refused}
+use Rattle.std.specs.Prelude.{Ok, Err}
 
 -- ---- how many values are read: a turn reads one at most
 abbrev Few : {X : Type 0} → ℕ → Got (List X) → Type 0
@@ -39,14 +39,14 @@ module _ {E X : Type 0} (read : List E → Got X) where
   few (suc turns) [] = omega arith
   few (suc turns) (e ∷ s) = turn turns (e ∷ s) (read (e ∷ s)) (λ u. few turns u)
 
-apart : {A : Type 0} {why : Refusal} {n : ℕ} → Records n ≡ Refused why → A
+apart : {A : Type 0} {why : Refusal} {n : ℕ} → Ok n ≡ Err why → A
 apart e = absurd (let z : ◌≡◌ {A = ℕ} 0 1 = cc in omega arith)
 
-pub few-records : (cols rows : ℕ) (bytes : List ℕ) {n : ℕ} → Records n ≡ checked cols rows bytes → n ≤ length bytes
+pub few-records : (cols rows : ℕ) (bytes : List ℕ) {n : ℕ} → Ok n ≡ checked cols rows bytes → n ≤ length bytes
 unfolding checked records records_in when◌then◌else◌
 few-records cols rows bytes {n} e = go (grid_right cols rows) (records cols rows bytes) (few (parse_record cols rows) (length bytes) bytes) e
   where
-    go : (right : Bool) (g : Got (List Record)) → Few (length bytes) g → Records n ≡ (when right then check_answer g else Refused GridSize) → n ≤ length bytes
+    go : (right : Bool) (g : Got (List Record)) → Few (length bytes) g → Ok n ≡ (when right then check_answer g else Err GridSize) → n ≤ length bytes
     go true (got rs k) h x = let m : n ≡ length rs = cc in omega arith
     go true (refused why) h x = apart x
     go false g h x = apart x

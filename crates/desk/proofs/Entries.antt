@@ -13,12 +13,12 @@ use Rattle.state.specs.State.{State}
 use Rattle.macroblock.specs.Decode.{decoded}
 use Rattle.macroblock.specs.Entry.{state_of, mb_left, quantiser_by}
 use Rattle.state.specs.declared.Frame.{Frame}
-use Rattle.macroblock.specs.declared.MbAnswer.{MbAnswer}
+use Rattle.macroblock.specs.Decode.{MbAnswer}
 use Rattle.run.specs.Left.{run_left, list_left}
 use Rattle.run.specs.declared.Report.{Report}
 use Rattle.replay.specs.Replay.{quantiser_of, replay_left, replayed}
-use Rattle.replay.specs.declared.ReplayAnswer.{ReplayAnswer}
-use Rattle.desk.specs.Answer.{output_room, mb_code, stop_code, replay_code}
+use Rattle.replay.specs.Replay.{ReplayAnswer}
+use Rattle.desk.specs.Answer.{output_room, done_code}
 use Rattle.desk.specs.Counts.{mb_counts, run_counts, replay_counts}
 use Rattle.desk.specs.Entries.{Slices, Ended, slices_of, ended, unless_short, mb_telling, run_telling, replay_telling, mb_ended, run_ended, replay_ended}
 
@@ -53,7 +53,7 @@ module _ (frame : Frame) (q : ℕ) (ry rcb rcr : List ℕ) (s : Slices) where
   module _ (f : Frame) (is : f ≡ frame) (y cb cr : List ℕ) (mv : List ℤ) (marks transcript counts : List ℕ) (code : ℤ) where
     pub mb-done : (call : Call) (bits : List ℕ) (place fill : ℕ) (answer : MbAnswer) → 5 ≤ length s.counts
         → mb_left answer (state_of f (quantiser_by q answer) ry rcb rcr y cb cr mv marks) transcript ≡ decoded (start_of f q ry rcb rcr s) call bits place s.transcript fill
-        → code ≡ mb_code answer
+        → code ≡ done_code answer
         → counts ≡ sets s.counts 0 (mb_counts answer place q fill)
         → ended code (slices_of y cb cr mv marks transcript counts) ≡ mb_ended start s call bits place fill
     unfolding mb_ended
@@ -64,7 +64,7 @@ module _ (frame : Frame) (q : ℕ) (ry rcb rcr : List ℕ) (s : Slices) where
 
     pub run-done : (calls bits : List ℕ) (place : ℕ) (r : Report) → 5 ≤ length s.counts
         → run_left r (state_of f r.quantiser ry rcb rcr y cb cr mv marks) transcript ≡ list_left (start_of f q ry rcb rcr s) calls bits place s.transcript
-        → code ≡ stop_code r.stop
+        → code ≡ done_code r.stop
         → counts ≡ sets s.counts 0 (run_counts r)
         → ended code (slices_of y cb cr mv marks transcript counts) ≡ run_ended start s calls bits place
     unfolding run_ended
@@ -75,7 +75,7 @@ module _ (frame : Frame) (q : ℕ) (ry rcb rcr : List ℕ) (s : Slices) where
 
     pub replay-done : (r : ReplayAnswer) → 2 ≤ length s.counts
         → replay_left r (state_of f (quantiser_of q r) ry rcb rcr y cb cr mv marks) ≡ replayed (start_of f q ry rcb rcr s) s.transcript
-        → code ≡ replay_code r
+        → code ≡ done_code r
         → counts ≡ sets s.counts 0 (replay_counts r q)
         → ended code (slices_of y cb cr mv marks s.transcript counts) ≡ replay_ended start s
     unfolding replay_ended

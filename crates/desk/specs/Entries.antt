@@ -9,7 +9,7 @@ use Rattle.macroblock.specs.Decode.{Outcome, decoded}
 use Rattle.macroblock.specs.Entry.{LentMut}
 use Rattle.run.specs.Left.{Left, list_left}
 use Rattle.replay.specs.Replay.{Replay, replayed}
-use Rattle.desk.specs.Answer.{output_room, mb_code, stop_code, replay_code}
+use Rattle.desk.specs.Answer.{output_room, done_code}
 use Rattle.desk.specs.Counts.{mb_counts, run_counts, replay_counts}
 
 -- what is lent to be changed; a replay changes no transcript
@@ -52,13 +52,13 @@ abbrev pub unless_short : ℕ → Slices → Ended → Ended
 unless_short n s done = when ltb (length s.counts) n then ended output_room s else done
 
 abbrev pub mb_telling : ℕ → ℕ → ℕ → List ℕ → Outcome → Ended
-mb_telling place quantiser fill counts o = telling (mb_code o.answer) o.state o.transcript counts (mb_counts o.answer place quantiser fill)
+mb_telling place quantiser fill counts o = telling (done_code o.answer) o.state o.transcript counts (mb_counts o.answer place quantiser fill)
 
 abbrev pub run_telling : List ℕ → Left → Ended
-run_telling counts l = telling (stop_code l.report.stop) l.state l.transcript counts (run_counts l.report)
+run_telling counts l = telling (done_code l.report.stop) l.state l.transcript counts (run_counts l.report)
 
 abbrev pub replay_telling : ℕ → List ℕ → List ℕ → Replay → Ended
-replay_telling quantiser transcript counts p = telling (replay_code p.answer) p.state transcript counts (replay_counts p.answer quantiser)
+replay_telling quantiser transcript counts p = telling (done_code p.answer) p.state transcript counts (replay_counts p.answer quantiser)
 
 unfoldable pub mb_ended : State → Slices → Call → List ℕ → ℕ → ℕ → Ended
 mb_ended start s call bits place fill = unless_short 5 s (mb_telling place start.quantiser fill s.counts (decoded start call bits place s.transcript fill))

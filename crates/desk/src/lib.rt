@@ -5,7 +5,7 @@ ghost use Rattle.compensation.specs.Block.{block_answer, block_out};
 ghost use Rattle.transcript.specs.Check.{checked};
 ghost use Rattle.macroblock.specs.Entry.{state_before};
 ghost use Rattle.desk.specs.Given.{frame_of};
-ghost use Rattle.desk.specs.Answer.{block_code, check_code};
+ghost use Rattle.desk.specs.Answer.{done_code, check_code};
 ghost use Rattle.desk.specs.Entries.{slices_of, slices_before, slices_after, ended, call_of, mb_ended, run_ended, replay_ended};
 
 use crate::given::frame_of;
@@ -15,7 +15,7 @@ use macroblock::svq3_frame::decode_inter_mb;
 use replay::replay::replay;
 use run::run::run;
 use state::Call;
-use transcript::check::{CheckAnswer, check_transcript};
+use transcript::check::check_transcript;
 
 pub mod given;
 pub mod told;
@@ -172,7 +172,7 @@ pub fn svq3_compensate_block(
     vy: i32,
     out: &mut [u8],
 ) -> i64
-    ensures value { result ≡ block_code (block_answer (length plane.now) width height w h (length out.old)) }
+    ensures value { result ≡ done_code (block_answer (length plane.now) width height w h (length out.old)) }
     ensures out_after { out.new ≡ block_out out.old plane.now width height x y w h vx vy }
 {
     let answer = motion_compensate_block(
@@ -198,7 +198,7 @@ pub fn svq3_check_transcript(cols: u64, rows: u64, bytes: &[u8]) -> i64
     ensures { result ≡ check_code (checked cols rows bytes.now) }
 {
     match check_transcript(bytes, cols as usize, rows as usize) {
-        CheckAnswer::Records(n) => n as i64,
-        CheckAnswer::Refused(why) => refused(why),
+        Ok(n) => n as i64,
+        Err(why) => refused(why),
     }
 }

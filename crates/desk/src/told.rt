@@ -1,13 +1,13 @@
 // What a C caller is told: the answer as one number, and the counts.
 ghost use Rattle.std.specs.Prelude.{◌≡◌, [], ◌∷◌, ◌≤◌, length};
 ghost use Rattle.std.proofs.lemmas.List.Edits.{sets};
-ghost use Rattle.desk.specs.Answer.{refusal_code, mb_code, stop_code, replay_code};
+ghost use Rattle.desk.specs.Answer.{refusal_code, done_code};
 ghost use Rattle.desk.specs.Counts.{word_of, mb_counts, run_counts, replay_counts};
 
-use macroblock::MbAnswer;
+use macroblock::MbReport;
 use refusal::{Refusal, detail_of, number_of};
-use replay::ReplayAnswer;
-use run::{Report, Stop};
+use replay::ReplayReport;
+use run::Report;
 
 // Minus the refusal's number.
 pub fn refused(why: Refusal) -> i64
@@ -48,16 +48,16 @@ fn put_five(counts: &mut [u64], a: u64, b: u64, c: u64, d: u64, e: u64)
 
 pub fn tell_macroblock(
     counts: &mut [u64],
-    answer: MbAnswer,
+    answer: Result<MbReport, Refusal>,
     place: u64,
     quantiser: u32,
     fill: u64,
 ) -> i64
     requires { 5 ≤ length counts.old }
-    ensures { (result ≡ mb_code answer) × (counts.new ≡ sets counts.old 0 (mb_counts answer place quantiser fill)) }
+    ensures { (result ≡ done_code answer) × (counts.new ≡ sets counts.old 0 (mb_counts answer place quantiser fill)) }
 {
     match answer {
-        MbAnswer::Accepted(report) => {
+        Ok(report) => {
             put_five(
                 counts,
                 report.place as u64,
@@ -68,7 +68,7 @@ pub fn tell_macroblock(
             );
             0
         }
-        MbAnswer::Refused(why) => {
+        Err(why) => {
             let detail = word(detail_of(why));
             put_five(counts, place, quantiser as u64, fill, 0, detail);
             refused(why)
@@ -78,7 +78,7 @@ pub fn tell_macroblock(
 
 pub fn tell_run(counts: &mut [u64], report: Report) -> i64
     requires { 5 ≤ length counts.old }
-    ensures { (result ≡ stop_code report.stop) × (counts.new ≡ sets counts.old 0 (run_counts report)) }
+    ensures { (result ≡ done_code report.stop) × (counts.new ≡ sets counts.old 0 (run_counts report)) }
 {
     let accepted = report.accepted as u64;
     let consumed = report.consumed as u64;
@@ -86,11 +86,11 @@ pub fn tell_run(counts: &mut [u64], report: Report) -> i64
     let quantiser = report.quantiser as u64;
     let stop = report.stop;
     match stop {
-        Stop::Done => {
+        Ok(()) => {
             put_five(counts, accepted, consumed, fill, quantiser, 0);
             0
         }
-        Stop::By(why) => {
+        Err(why) => {
             let detail = word(detail_of(why));
             put_five(counts, accepted, consumed, fill, quantiser, detail);
             refused(why)
@@ -98,16 +98,16 @@ pub fn tell_run(counts: &mut [u64], report: Report) -> i64
     }
 }
 
-pub fn tell_replay(counts: &mut [u64], answer: ReplayAnswer, quantiser: u32) -> i64
+pub fn tell_replay(counts: &mut [u64], answer: Result<ReplayReport, Refusal>, quantiser: u32) -> i64
     requires { 2 ≤ length counts.old }
-    ensures { (result ≡ replay_code answer) × (counts.new ≡ sets counts.old 0 (replay_counts answer quantiser)) }
+    ensures { (result ≡ done_code answer) × (counts.new ≡ sets counts.old 0 (replay_counts answer quantiser)) }
 {
     match answer {
-        ReplayAnswer::Replayed(report) => {
+        Ok(report) => {
             put_two(counts, report.records as u64, report.quantiser as u64);
             0
         }
-        ReplayAnswer::Refused(why) => {
+        Err(why) => {
             put_two(counts, 0, quantiser as u64);
             refused(why)
         }

@@ -5,7 +5,7 @@ ghost use Rattle.compensation.specs.Block.{block_answer, block_out};
 ghost use Rattle.transcript.specs.Check.{checked};
 ghost use Rattle.macroblock.specs.Entry.{state_before};
 ghost use Rattle.desk.specs.Given.{frame_of};
-ghost use Rattle.desk.specs.Answer.{block_code, check_code};
+ghost use Rattle.desk.specs.Answer.{done_code, check_code};
 ghost use Rattle.desk.specs.Entries.{slices_of, slices_before, slices_after, ended, call_of, mb_ended, run_ended, replay_ended};
 
 // One macroblock. The counts: place, quantiser, fill, clipped components, detail.
@@ -112,7 +112,7 @@ pub extern "C" fn svq3_compensate_block(
     vy: i32,
     out: &mut [u8],
 ) -> i64
-    ensures value { result ≡ block_code (block_answer (length plane.now) width height w h (length out.old)) }
+    ensures value { result ≡ done_code (block_answer (length plane.now) width height w h (length out.old)) }
     ensures out_after { out.new ≡ block_out out.old plane.now width height x y w h vx vy }
 {
     desk::svq3_compensate_block(plane, width, height, x, y, w, h, vx, vy, out)

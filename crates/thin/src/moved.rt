@@ -7,14 +7,15 @@ ghost use Rattle.thin.specs.Cursor.{cursor_of};
 
 use crate::run_at;
 use crate::svq3_frame::decode_inter_mb_at;
-use macroblock::MbAnswer;
+use macroblock::MbReport;
+use refusal::Refusal;
 use run::Report;
 use state::{Call, Cursor, Frame};
 
 // What the entry answers, and where it leaves the cursor.
 #[derive(Clone, Copy)]
 pub struct MbMoved {
-    pub answer: MbAnswer,
+    pub answer: Result<MbReport, Refusal>,
     pub cursor: Cursor,
 }
 

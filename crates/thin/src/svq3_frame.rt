@@ -4,7 +4,8 @@ ghost use Rattle.macroblock.specs.Decode.{decoded};
 ghost use Rattle.macroblock.specs.Entry.{state_before, state_after, mb_left, cursor_by};
 
 use macroblock::svq3_frame::decode_inter_mb;
-use macroblock::{MbAnswer, cursor_by};
+use macroblock::{MbReport, cursor_by};
+use refusal::Refusal;
 use state::{Call, Cursor, Frame};
 
 // One macroblock from the caller's own place and quantiser, which move on.
@@ -23,7 +24,7 @@ pub fn decode_inter_mb_at(
     frame: Frame,
     call: Call,
     fill: usize,
-) -> MbAnswer
+) -> Result<MbReport, Refusal>
     ensures { (mb_left result (state_after frame cursor.new.quantiser ry rcb rcr y cb cr mv marks) transcript.new
         ≡ decoded (state_before frame cursor.old.quantiser ry rcb rcr y cb cr mv marks) call bits.now cursor.old.place transcript.old fill)
         × (cursor.new ≡ cursor_by cursor.old.place cursor.old.quantiser result) }

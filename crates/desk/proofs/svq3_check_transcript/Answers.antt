@@ -9,10 +9,10 @@ use Rattle.desk.proofs.Check.{few-records}
 use Rattle.desk.proofs.svq3_check_transcript.Goals as goal
 
 pub overflow_cast-result : goal.overflow_cast-result
-overflow_cast-result c = record { sfits = omega (arith, few-records _ _ _ (sym c.in-Records.is ∙ c.check_transcript.ensures)) }
+overflow_cast-result c = record { sfits = omega (arith, few-records _ _ _ (sym c.in-Ok.is ∙ c.check_transcript.ensures)) }
 
-pub returns-in-Records : goal.returns-in-Records
-returns-in-Records c = to_z_pos w64 (omega (arith, few-records _ _ _ (sym c.in-Records.is ∙ c.check_transcript.ensures))) ∙ ap check_code (sym c.in-Records.is ∙ c.check_transcript.ensures)
+pub returns-in-Ok : goal.returns-in-Ok
+returns-in-Ok c = to_z_pos w64 (omega (arith, few-records _ _ _ (sym c.in-Ok.is ∙ c.check_transcript.ensures))) ∙ ap check_code (sym c.in-Ok.is ∙ c.check_transcript.ensures)
 
-pub returns-in-Refused : goal.returns-in-Refused
-returns-in-Refused c = back w64 c.refused.type_inv c.refused.ensures ∙ ap check_code (sym c.in-Refused.is ∙ c.check_transcript.ensures)
+pub returns-in-Err : goal.returns-in-Err
+returns-in-Err c = back w64 c.refused.type_inv c.refused.ensures ∙ ap check_code (sym c.in-Err.is ∙ c.check_transcript.ensures)

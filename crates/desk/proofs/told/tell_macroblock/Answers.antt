@@ -8,11 +8,11 @@ use Rattle.ints.proofs.Fits.{back}
 use Rattle.desk.specs.Counts.{word_of}
 use Rattle.desk.proofs.told.tell_macroblock.Goals as goal
 
-pub returns-in-Accepted : goal.returns-in-Accepted
-returns-in-Accepted c = rw c.in-Accepted.is (refl, c.put_five.ensures)
+pub returns-in-Ok : goal.returns-in-Ok
+returns-in-Ok c = rw c.in-Ok.is (refl, c.put_five.ensures)
 
-pub returns-in-Refused : goal.returns-in-Refused
-returns-in-Refused c =
+pub returns-in-Err : goal.returns-in-Err
+returns-in-Err c =
     let a = c.args in
     let e = c.word-detail.ensures ∙ ap word_of (back w64 c.detail_of.type_inv c.detail_of.ensures) in
-    rw c.in-Refused.is (back w64 c.refused.type_inv c.refused.ensures, c.put_five-in-Refused.ensures ∙ ap (λ (w : ℕ). sets a.counts.now 0 (a.place ∷ a.quantiser ∷ a.fill ∷ 0 ∷ w ∷ [])) e)
+    rw c.in-Err.is (back w64 c.refused.type_inv c.refused.ensures, c.put_five-in-Err.ensures ∙ ap (λ (w : ℕ). sets a.counts.now 0 (a.place ∷ a.quantiser ∷ a.fill ∷ 0 ∷ w ∷ [])) e)

@@ -4,8 +4,8 @@ use mir.Syntax.{w64}
 use Rattle.ints.proofs.Fits.{back}
 use Rattle.desk.proofs.told.tell_replay.Goals as goal
 
-pub returns-in-Replayed : goal.returns-in-Replayed
-returns-in-Replayed c = rw c.in-Replayed.is (refl, c.put_two.ensures)
+pub returns-in-Ok : goal.returns-in-Ok
+returns-in-Ok c = rw c.in-Ok.is (refl, c.put_two.ensures)
 
-pub returns-in-Refused : goal.returns-in-Refused
-returns-in-Refused c = rw c.in-Refused.is (back w64 c.refused.type_inv c.refused.ensures, c.put_two-in-Refused.ensures)
+pub returns-in-Err : goal.returns-in-Err
+returns-in-Err c = rw c.in-Err.is (back w64 c.refused.type_inv c.refused.ensures, c.put_two-in-Err.ensures)

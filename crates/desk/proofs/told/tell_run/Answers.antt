@@ -8,12 +8,12 @@ use Rattle.ints.proofs.Fits.{back}
 use Rattle.desk.specs.Counts.{word_of}
 use Rattle.desk.proofs.told.tell_run.Goals as goal
 
-pub returns-in-Done : goal.returns-in-Done
-returns-in-Done c = rw c.in-Done.is (refl, c.put_five.ensures)
+pub returns-in-Ok : goal.returns-in-Ok
+returns-in-Ok c = rw c.in-Ok.is (refl, c.put_five.ensures)
 
-pub returns-in-By : goal.returns-in-By
-returns-in-By c =
+pub returns-in-Err : goal.returns-in-Err
+returns-in-Err c =
     let a = c.args in
     let r = a.report in
     let e = c.word-detail.ensures ∙ ap word_of (back w64 c.detail_of.type_inv c.detail_of.ensures) in
-    rw c.in-By.is (back w64 c.refused.type_inv c.refused.ensures, c.put_five-in-By.ensures ∙ ap (λ (w : ℕ). sets a.counts.now 0 (r.accepted ∷ r.consumed ∷ r.fill ∷ r.quantiser ∷ w ∷ [])) e)
+    rw c.in-Err.is (back w64 c.refused.type_inv c.refused.ensures, c.put_five-in-Err.ensures ∙ ap (λ (w : ℕ). sets a.counts.now 0 (r.accepted ∷ r.consumed ∷ r.fill ∷ r.quantiser ∷ w ∷ [])) e)
