@@ -7,7 +7,7 @@ use Rattle.state.specs.Questions.{ask_start, ask_quantiser, ask_call, ask_replay
 use Rattle.state.proofs.Laws.{grid-range}
 use Rattle.state.proofs.Yes.{started, rest-yes}
 use Rattle.state.specs.declared.Call.{Call}
-use Rattle.state.specs.declared.Asked.TheVariants.{Yes}
+use Rattle.state.specs.Questions.{yes}
 use Rattle.state.specs.State.{State, lengths_of}
 use Rattle.theorems.specs.Trace.{Ready}
 
@@ -15,9 +15,9 @@ use Rattle.theorems.specs.Trace.{Ready}
 pub record Asks (s : State) (call : Call) (free : ℕ) : Type 0 where
   pub ready : Ready s call
   pub free_bytes : 2089 ≤ free
-  pub replay : ask_replay s.cols s.rows (lengths_of s) s.quantiser ≡ Yes
+  pub replay : ask_replay s.cols s.rows (lengths_of s) s.quantiser ≡ yes
 
-pub asks : (s : State) (call : Call) (size place free : ℕ) → ask_call s.cols s.rows (lengths_of s) call s.quantiser size place free ≡ Yes → Asks s call free
+pub asks : (s : State) (call : Call) (size place free : ℕ) → ask_call s.cols s.rows (lengths_of s) call s.quantiser size place free ≡ yes → Asks s call free
 unfolding ask_call ask_replay ask_start ask_quantiser
 asks s call size place free e =
     let st = started s.cols s.rows (lengths_of s) _ e in

@@ -12,8 +12,8 @@ use Rattle.refusal.specs.Got.{Got, got, refused}
 use Rattle.refusal.specs.declared.Refusal.{Refusal}
 use Rattle.state.specs.Questions.{ask_replay}
 use Rattle.state.specs.declared.Call.{Call}
-use Rattle.state.specs.declared.Asked.{Asked}
-use Rattle.state.specs.declared.Asked.TheVariants.{Yes, No}
+use Rattle.state.specs.Questions.{Asked}
+use Rattle.std.specs.Prelude.{Ok, Err}
 use Rattle.record.specs.Record.{Record}
 use Rattle.record.specs.Write.{record_bytes}
 use Rattle.record.specs.Parse.{parse_record}
@@ -26,8 +26,7 @@ use Rattle.run.specs.Run.{Ran, ended, onward, ran_from, ran, ran_of, ran_list, t
 use Rattle.refusal.proofs.Lists.{until-end, until-turn}
 use Rattle.transcript.specs.Records.{records_in, records}
 use Rattle.replay.specs.Replay.{applied_all, replay_of, unless_asked, replayed}
-use Rattle.replay.specs.declared.ReplayAnswer.{ReplayAnswer}
-use Rattle.replay.specs.declared.ReplayAnswer.TheVariants.{Replayed, Refused}
+use Rattle.replay.specs.Replay.{ReplayAnswer}
 use Rattle.theorems.specs.Trace.{Path, done, step, calls_of, bytes_of}
 use Rattle.theorems.proofs.Traces.{Kind, no, yes, kind}
 use Rattle.theorems.proofs.Paths.{Ranged, none, more, path-ranged}
@@ -57,10 +56,10 @@ path-applied done = refl
 path-applied (step call n m a x p sum) = path-applied p
 
 -- ---- a start that is refused is left as it was
-yes-no : {A : Type 0} {why : Refusal} {a : Asked} → a ≡ Yes → a ≡ No why → A
+yes-no : {A : Type 0} {why : Refusal} {a : Asked} → a ≡ Ok tt → a ≡ Err why → A
 yes-no p q = absurd (let z : ◌≡◌ {A = ℕ} 0 1 = cc in omega arith)
 
-untouched : (s : State) (calls : List Call) (bits : List ℕ) (place : ℕ) (room : List ℕ) (why : Refusal) → ask_replay s.cols s.rows (lengths_of s) s.quantiser ≡ No why → (ran s calls bits place room).state ≡ s
+untouched : (s : State) (calls : List Call) (bits : List ℕ) (place : ℕ) (room : List ℕ) (why : Refusal) → ask_replay s.cols s.rows (lengths_of s) s.quantiser ≡ Err why → (ran s calls bits place room).state ≡ s
 unfolding ran ran_from ended
 untouched s [] bits place room why e = refl
 untouched s (call ∷ calls) bits place room why e = go (kind s call bits place room 0)
@@ -72,7 +71,7 @@ untouched s (call ∷ calls) bits place room why e = go (kind s call bits place 
     go (no w x) = ap (λ (o : Outcome). (rest o).state) x
     go (yes r n a h x) = yes-no a.replay e
 
-list-untouched : (s : State) (list bits : List ℕ) (place : ℕ) (room : List ℕ) (why : Refusal) → ask_replay s.cols s.rows (lengths_of s) s.quantiser ≡ No why → (ran_list s list bits place room).state ≡ s
+list-untouched : (s : State) (list bits : List ℕ) (place : ℕ) (room : List ℕ) (why : Refusal) → ask_replay s.cols s.rows (lengths_of s) s.quantiser ≡ Err why → (ran_list s list bits place room).state ≡ s
 unfolding ran_list ended
 list-untouched s list bits place room why e = go (calls list)
   where
@@ -82,8 +81,8 @@ list-untouched s list bits place room why e = go (calls list)
 
 -- ---- the theorem
 abbrev pub answer_of : Asked → ℕ → ℕ → ReplayAnswer
-answer_of Yes n q = Replayed (record { records = n; quantiser = q })
-answer_of (No why) n q = Refused why
+answer_of (Ok _) n q = Ok (record { records = n; quantiser = q })
+answer_of (Err why) n q = Err why
 
 count_of : (rs : List Record) → length (calls_of rs) ≡ length rs
 unfolding calls_of
@@ -100,7 +99,7 @@ replay_of_run s list bits place room = go (ask_replay s.cols s.rows (lengths_of 
 
     go : (a : Asked) → ask_replay s.cols s.rows (lengths_of s) s.quantiser ≡ a
         → unless_asked a s (replay_of s (records s.cols s.rows (transcript_of r))) ≡ record { answer = answer_of a (length r.accepted) r.state.quantiser; state = r.state }
-    go (No why) e = ap (λ (t : State). record { answer = Refused why; state = t }) (sym (list-untouched s list bits place room why e))
-    go Yes e =
+    go (Err why) e = ap (λ (t : State). record { answer = Err why; state = t }) (sym (list-untouched s list bits place room why e))
+    go (Ok u) e =
         let x = list-trace s list bits place room in
         rw (transcript-is x, records-of (path-ranged x.path), path-applied x.path, x.calls, count_of x.rs)

@@ -41,7 +41,7 @@ use Rattle.state.specs.InnerSizes.{AllSized}
 use Rattle.state.specs.State.{State, context_of, lengths_of}
 use Rattle.macroblock.specs.Decode.{applied, Outcome, outcome_of, decoded}
 use Rattle.macroblock.specs.declared.MbReport.{MbReport}
-use Rattle.macroblock.specs.declared.MbAnswer.TheVariants.{Accepted}
+use Rattle.std.specs.Prelude.{Ok, Err}
 use Rattle.theorems.specs.Trace.{Ready}
 use Rattle.theorems.specs.Samples.{Plane, Luma, Cb, Cr, reference_of, picture_of, unit_of, width_of, height_of, picture_at, reference_at, compensated_at, of_taps, quadrant_at, coded_at, luma_residual_at, chroma_residual_at, with_residual_at}
 use Rattle.theorems.proofs.Traces.{Kind, no, yes, kind}
@@ -57,7 +57,7 @@ record Reading (s : State) (call : Call) (bits : List ℕ) (place : ℕ) (after 
   ready : Ready s call
   sized : AllSized s.cols s.rows (lengths_of s)
 
-accepted-reads : (s : State) (call : Call) (bits : List ℕ) (place : ℕ) (t : List ℕ) (fill : ℕ) {report : MbReport} → (decoded s call bits place t fill).answer ≡ Accepted report
+accepted-reads : (s : State) (call : Call) (bits : List ℕ) (place : ℕ) (t : List ℕ) (fill : ℕ) {report : MbReport} → (decoded s call bits place t fill).answer ≡ Ok report
     → Reading s call bits place (decoded s call bits place t fill).state
 unfolding outcome_of ask_replay
 accepted-reads s call bits place t fill a = go (kind s call bits place t fill)
@@ -161,7 +161,7 @@ module _ {s : State} {call : Call} {r : Record} {after : State} (g : Applying s 
 
 -- ---- the theorems
 module _ (s : State) (call : Call) (bits : List ℕ) (place : ℕ) (room : List ℕ) (fill : ℕ)
-    {report : MbReport} (accepted : (decoded s call bits place room fill).answer ≡ Accepted report) where
+    {report : MbReport} (accepted : (decoded s call bits place room fill).answer ≡ Ok report) where
   abbrev after : State
   after = (decoded s call bits place room fill).state
 

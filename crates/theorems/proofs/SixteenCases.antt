@@ -11,7 +11,7 @@ use Rattle.bits.specs.Code.{code, code_from}
 use Rattle.bits.specs.Signed.{signed_of}
 use Rattle.levels.specs.Book.{resolve, level, level_of, magnitude, magnitudes, run, runs, escape_magnitude, least, chroma_base}
 use Rattle.levels.specs.declared.svq3_coeff.ResidualBook.TheVariants.{NormalScan, ChromaDc}
-use Rattle.levels.specs.declared.svq3_coeff.LevelRun.TheVariants.{Pair}
+use Rattle.std.specs.Prelude.{Some}
 use Rattle.vectors.specs.Units.{convert_predictor, round_to_sixths}
 use Rattle.vectors.specs.declared.svq3_mb.Svq3MvPrecision.TheVariants.{Fullpel}
 use Rattle.compensation.specs.Formula.{along, formula}
@@ -25,10 +25,10 @@ pub sixteen_cases :
     × (code (false ∷ true ∷ false ∷ true ∷ true ∷ []) ≡ got 6 5)
     × (signed_of 3 ≡ pos 2)
     × (signed_of 4 ≡ negsuc 1)
-    × (resolve NormalScan 31 ≡ Pair (pos 5) 0)
-    × (resolve NormalScan 33 ≡ Pair (pos 3) 1)
-    × (resolve ChromaDc 23 ≡ Pair (pos 5) 0)
-    × (resolve ChromaDc 25 ≡ Pair (pos 4) 1)
+    × (resolve NormalScan 31 ≡ Some (pos 5, 0))
+    × (resolve NormalScan 33 ≡ Some (pos 3, 1))
+    × (resolve ChromaDc 23 ≡ Some (pos 5, 0))
+    × (resolve ChromaDc 25 ≡ Some (pos 4, 1))
     × (convert_predictor Fullpel (negsuc 2) ≡ pos 0)
     × (convert_predictor Fullpel (negsuc 3) ≡ negsuc 0)
     × (along 2 0 255 ≡ 85)

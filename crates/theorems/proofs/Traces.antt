@@ -12,8 +12,8 @@ use Rattle.refusal.specs.Got.{Got, got, refused}
 use Rattle.refusal.specs.declared.Refusal.{Refusal}
 use Rattle.bits.specs.Bits.{bit_list}
 use Rattle.state.specs.declared.Call.{Call}
-use Rattle.state.specs.declared.Asked.{Asked}
-use Rattle.state.specs.declared.Asked.TheVariants.{Yes, No}
+use Rattle.state.specs.Questions.{Asked}
+use Rattle.std.specs.Prelude.{Ok, Err}
 use Rattle.record.specs.Record.{Record}
 use Rattle.record.specs.Range.{RecordRange}
 use Rattle.record.specs.Write.{record_bytes}
@@ -22,16 +22,14 @@ use Rattle.reading.specs.Read.{read_macroblock}
 use Rattle.reading.proofs.Took.{read-range, read-call}
 use Rattle.state.specs.State.{State, context_of}
 use Rattle.macroblock.specs.Decode.{applied, Outcome, kept, outcome_of, asked, decoded}
-use Rattle.macroblock.specs.declared.MbAnswer.TheVariants.{Refused}
 use Rattle.run.specs.Run.{Ran, ended, with_call, onward, ran_from}
-use Rattle.run.specs.declared.Stop.{Stop}
-use Rattle.run.specs.declared.Stop.TheVariants.{Done, By}
+use Rattle.run.specs.Run.{Stop}
 use Rattle.theorems.specs.Trace.{Ready, Path, done, step, calls_of, bytes_of, clips_of}
 use Rattle.theorems.proofs.Ready.{Asks, asks}
 
 -- ---- one call
 pub data Kind (s : State) (call : Call) (bits : List ℕ) (place : ℕ) (t : List ℕ) (fill : ℕ) : Type 0 where
-  no : (why : Refusal) → decoded s call bits place t fill ≡ kept s t (Refused why) → Kind s call bits place t fill
+  no : (why : Refusal) → decoded s call bits place t fill ≡ kept s t (Err why) → Kind s call bits place t fill
   yes : (r : Record) (n : ℕ) → Asks s call (length t - fill) → read_macroblock (context_of s) call (drop place (bit_list bits)) ≡ got r n
       → decoded s call bits place t fill ≡ outcome_of s place t fill (got r n) → Kind s call bits place t fill
 
@@ -43,9 +41,9 @@ kind s call bits place t fill =
   where
     go : (a : Asked) → asked s call bits place t fill ≡ a
         → (g : Got Record) → read_macroblock (context_of s) call (drop place (bit_list bits)) ≡ g → Kind s call bits place t fill
-    go (No why) e g h = no why (rw e)
-    go Yes e (refused why) h = no why (rw (e, h))
-    go Yes e (got r n) h = yes r n (asks s call (length bits) place (length t - fill) e) h (rw (e, h))
+    go (Err why) e g h = no why (rw e)
+    go (Ok u) e (refused why) h = no why (rw (e, h))
+    go (Ok u) e (got r n) h = yes r n (asks s call (length bits) place (length t - fill) e) h (rw (e, h))
 
 -- a record that was written stands behind what was there
 written : (t : List ℕ) (fill : ℕ) (b : List ℕ) → fill + length b ≤ length t → take (fill + length b) (sets t fill b) ≡ take fill t ++ b
@@ -94,7 +92,7 @@ one_more s call bits place t fill r n a e rest x =
 -- TRACE
 pub trace : (s : State) (calls : List Call) (bits : List ℕ) (place : ℕ) (t : List ℕ) (fill : ℕ) → Trace s bits place t fill (ran_from s calls bits place t fill)
 unfolding ran_from outcome_of
-trace s [] bits place t fill = no_call s bits place t fill Done
+trace s [] bits place t fill = no_call s bits place t fill (Ok tt)
 trace s (call ∷ calls) bits place t fill = go (λ r n. trace (applied s r) calls bits (place + n) (sets t fill (record_bytes r)) (fill + length (record_bytes r))) (kind s call bits place t fill)
   where
     rest : Outcome → Ran
@@ -102,5 +100,5 @@ trace s (call ∷ calls) bits place t fill = go (λ r n. trace (applied s r) cal
 
     go : ((r : Record) (n : ℕ) → Trace (applied s r) bits (place + n) (sets t fill (record_bytes r)) (fill + length (record_bytes r)) (ran_from (applied s r) calls bits (place + n) (sets t fill (record_bytes r)) (fill + length (record_bytes r))))
         → Kind s call bits place t fill → Trace s bits place t fill (rest (decoded s call bits place t fill))
-    go more (no why e) = subst (λ (o : Outcome). Trace s bits place t fill (rest o)) (sym e) (no_call s bits place t fill (By why))
+    go more (no why e) = subst (λ (o : Outcome). Trace s bits place t fill (rest o)) (sym e) (no_call s bits place t fill (Err why))
     go more (yes r n a h e) = subst (λ (o : Outcome). Trace s bits place t fill (rest o)) (sym e) (one_more s call bits place t fill r n a h _ (more r n))
