@@ -16,15 +16,14 @@ use Rattle.record.proofs.Records.{record-format}
 use Rattle.transcript.specs.Written.{Written}
 use Rattle.transcript.proofs.Writing.{Still, still-all, still-more, still-fits, still-none}
 use Rattle.transcript.specs.Records.{records}
-use Rattle.transcript.specs.InnerCheck.{record_answer}
-use Rattle.transcript.specs.declared.check.RecordAnswer.TheVariants as one
+use Rattle.refusal.specs.Answered.{reached}
+use Rattle.std.specs.Prelude.{Ok, Err}
 use Rattle.transcript.proofs.Checks.{records-none, records-first, records-next, record-read, not-record}
 use Rattle.replay.specs.InnerRecorded.{Recorded}
 use Rattle.printing.specs.Text.{hex_bytes, hex_line, line, bits_line}
 use Rattle.printing.specs.Print.{record_lines, lines_of, stop_lines}
 use Rattle.printing.proofs.Texts.{line-length, bits-length, refused-length}
-use Rattle.run.specs.declared.Stop.{Stop}
-use Rattle.run.specs.declared.Stop.TheVariants.{Done, By}
+use Rattle.run.specs.Run.{Stop}
 
 -- ---- what is left: the transcript is read up to i, and the lines of what follows are still to be written at p
 pub record Going (cols rows : ℕ) (t : List ℕ) (out₀ : List ℕ) (at : ℕ) (out : List ℕ) (p i : ℕ) : Type 0 where
@@ -46,10 +45,10 @@ module _ {cols rows : ℕ} {t out₀ : List ℕ} {at : ℕ} {out : List ℕ} {p 
     next-record = records-next cols rows wide high t i g.recorded.rs g.recorded.taken lt g.recorded.is
 
     -- the transcript is in form
-    pub in-form : {A : Type 0} {why : Refusal} → one.Refused why ≡ record_answer i (parse_record cols rows (drop i t)) → A
+    pub in-form : {A : Type 0} {why : Refusal} → Err why ≡ reached i (parse_record cols rows (drop i t)) → A
     in-form {why = why} e = never (sym (not-record i (parse_record cols rows (drop i t)) why e) ∙ next-record.reads)
 
-    module _ {next : ℕ} (e : one.Record next ≡ record_answer i (parse_record cols rows (drop i t))) where
+    module _ {next : ℕ} (e : Ok next ≡ reached i (parse_record cols rows (drop i t))) where
       next-is : next ≡ i + next-record.k
       next-is =
           let r = record-read i (parse_record cols rows (drop i t)) next e in
@@ -105,8 +104,8 @@ module _ (cols rows : ℕ) (wide : cols ≤ 4096) (high : rows ≤ 4096) where
   lines-length {s} r = rw r.is (lines-most r.rs s r.taken r.is)
 
   stop-length : (stop : Stop) → length (stop_lines stop) ≤ 11
-  stop-length Done = omega arith
-  stop-length (By why) = refused-length why
+  stop-length (Ok _) = omega arith
+  stop-length (Err why) = refused-length why
 
   -- all that is printed of a run
   pub run_length : {s : List ℕ} → Recorded cols rows s → length s ≤ 33424 → (n : ℕ) → n < 2 ^ 64 → (stop : Stop) → length (lines_of (records cols rows s) ++ bits_line n ++ stop_lines stop) ≤ 100352

@@ -35,15 +35,13 @@ use Rattle.levels.proofs.ListKinds.{start_fits}
 use Rattle.record.proofs.Lengths.{record-length, head-range}
 use Rattle.state.specs.Questions.{then_ask, grid_right, planes_right, state_right, reference_there, call_right, place_in, ask_start, ask_quantiser, ask_place, ask_rest, ask_call, ask_run}
 use Rattle.state.specs.declared.Call.{Call}
-use Rattle.state.specs.declared.Asked.{Asked}
-use Rattle.state.specs.declared.Asked.TheVariants.{Yes, No}
+use Rattle.state.specs.Questions.{Asked}
+use Rattle.std.specs.Prelude.{Ok, Err}
 use Rattle.run.specs.Calls.{call_in}
 use Rattle.state.specs.State.{Context, State, context_of, lengths_of}
 use Rattle.reading.specs.Read.{Moving, moved, read_vectors, quantiser_in, read_quantiser, record_of, at_first, read_residual, read_coded, read_macroblock}
 use Rattle.macroblock.specs.Decode.{applied, Outcome, kept, outcome_of, unless_refused, decoded}
-use Rattle.macroblock.specs.declared.MbAnswer.TheVariants.{Refused}
-use Rattle.run.specs.Run.{Ran, ended, with_call, onward, ran_from, ran, stop_of}
-use Rattle.run.specs.declared.Stop.TheVariants.{By}
+use Rattle.run.specs.Run.{Ran, ended, with_call, onward, ran_from, ran}
 use Rattle.theorems.proofs.Traces.{Kind, no, yes, kind, path-range}
 use Rattle.printing.specs.Header.{HeaderRange, calls_from}
 use Rattle.printing.specs.Print.{start, room}
@@ -195,7 +193,7 @@ unfolding read_macroblock
 read-never c call s e = chosen (eqb call.mode 0) (got (skip_record call.column call.row) 0) (read_coded c call s) is-got (coded-never c call s) e
 
 -- ---- the questions
-ask-other : (t : Bool) (why : Refusal) (next : Asked) → (why ≡ TranscriptRoom → ⊥) → (next ≡ No TranscriptRoom → ⊥) → then_ask t why next ≡ No TranscriptRoom → ⊥
+ask-other : (t : Bool) (why : Refusal) (next : Asked) → (why ≡ TranscriptRoom → ⊥) → (next ≡ Err TranscriptRoom → ⊥) → then_ask t why next ≡ Err TranscriptRoom → ⊥
 ask-other true why next h k e = k e
 ask-other false why next h k e = h (let w : why ≡ TranscriptRoom = cc in w)
 
@@ -223,11 +221,11 @@ six e = let z : ◌≡◌ {A = ℕ} 0 1 = cc in omega arith
 seven : Distinct BitPlace
 seven e = let z : ◌≡◌ {A = ℕ} 0 1 = cc in omega arith
 
-is-yes : {why : Refusal} → Yes ≡ No why → ⊥
+is-yes : {why : Refusal} → ◌≡◌ {A = Asked} (Ok tt) (Err why) → ⊥
 is-yes e = let z : ◌≡◌ {A = ℕ} 0 1 = cc in omega arith
 
 module _ (s : State) (size place : ℕ) where
-  start-never : (next : Asked) → (next ≡ No TranscriptRoom → ⊥) → ask_start s.cols s.rows (lengths_of s) next ≡ No TranscriptRoom → ⊥
+  start-never : (next : Asked) → (next ≡ Err TranscriptRoom → ⊥) → ask_start s.cols s.rows (lengths_of s) next ≡ Err TranscriptRoom → ⊥
   unfolding ask_start
   start-never next h =
       let l = lengths_of s in
@@ -236,30 +234,30 @@ module _ (s : State) (size place : ℕ) where
       (ask-other (reference_there l) MissingReference _ three
       (ask-other (planes_right s.cols s.rows l.ry l.rcb l.rcr) ReferenceLength next four h)))
 
-  run-never : ask_run s.cols s.rows (lengths_of s) s.quantiser size place ≡ No TranscriptRoom → ⊥
+  run-never : ask_run s.cols s.rows (lengths_of s) s.quantiser size place ≡ Err TranscriptRoom → ⊥
   unfolding ask_run ask_quantiser ask_place
-  run-never = start-never _ (ask-other (leb s.quantiser 31) QuantiserRange _ six (ask-other (place_in size place) BitPlace Yes seven is-yes))
+  run-never = start-never _ (ask-other (leb s.quantiser 31) QuantiserRange _ six (ask-other (place_in size place) BitPlace (Ok tt) seven is-yes))
 
-  call-never : (call : Call) (free : ℕ) → 2089 ≤ free → ask_call s.cols s.rows (lengths_of s) call s.quantiser size place free ≡ No TranscriptRoom → ⊥
+  call-never : (call : Call) (free : ℕ) → 2089 ≤ free → ask_call s.cols s.rows (lengths_of s) call s.quantiser size place free ≡ Err TranscriptRoom → ⊥
   unfolding ask_call ask_rest ask_quantiser ask_place
   call-never call free h =
-      let f : then_ask (leb 2089 free) TranscriptRoom Yes ≡ No TranscriptRoom → ⊥ = rw (le-leb 2089 free h) is-yes in
+      let f : then_ask (leb 2089 free) TranscriptRoom (Ok tt) ≡ Err TranscriptRoom → ⊥ = rw (le-leb 2089 free h) is-yes in
       start-never _ (ask-other (call_right s.cols s.rows call) CallRange _ five (ask-other (leb s.quantiser 31) QuantiserRange _ six (ask-other (place_in size place) BitPlace _ seven f)))
 
 -- ---- a call
-decoded-never : (s : State) (call : Call) (bits : List ℕ) (place : ℕ) (t : List ℕ) (fill : ℕ) → 2089 ≤ length t - fill → decoded s call bits place t fill ≡ kept s t (Refused TranscriptRoom) → ⊥
+decoded-never : (s : State) (call : Call) (bits : List ℕ) (place : ℕ) (t : List ℕ) (fill : ℕ) → 2089 ≤ length t - fill → decoded s call bits place t fill ≡ kept s t (Err TranscriptRoom) → ⊥
 unfolding decoded outcome_of
 decoded-never s call bits place t fill h e =
     go (ask_call s.cols s.rows (lengths_of s) call s.quantiser (length bits) place (length t - fill)) (call-never s (length bits) place call (length t - fill) h)
     (read_macroblock (context_of s) call (drop place (bit_list bits))) (read-never (context_of s) call (drop place (bit_list bits))) (ap (λ (o : Outcome). o.answer) e)
   where
-    go : (a : Asked) → (a ≡ No TranscriptRoom → ⊥) → (g : Got Record) → (g ≡ refused TranscriptRoom → ⊥) → (unless_refused a s t (outcome_of s place t fill g)).answer ≡ Refused TranscriptRoom → ⊥
-    go (No why) x g y e = x (let w : why ≡ TranscriptRoom = cc in ap No w)
-    go Yes x (refused why) y e = y (let w : why ≡ TranscriptRoom = cc in ap refused w)
-    go Yes x (got r n) y e = let z : ◌≡◌ {A = ℕ} 0 1 = cc in omega arith
+    go : (a : Asked) → (a ≡ Err TranscriptRoom → ⊥) → (g : Got Record) → (g ≡ refused TranscriptRoom → ⊥) → (unless_refused a s t (outcome_of s place t fill g)).answer ≡ Err TranscriptRoom → ⊥
+    go (Err why) x g y e = x (let w : why ≡ TranscriptRoom = cc in ap Err w)
+    go (Ok u) x (refused why) y e = y (let w : why ≡ TranscriptRoom = cc in ap refused w)
+    go (Ok u) x (got r n) y e = let z : ◌≡◌ {A = ℕ} 0 1 = cc in omega arith
 
 -- ---- a run with room for its calls
-from-never : (s : State) (calls : List Call) (bits : List ℕ) (place : ℕ) (t : List ℕ) (fill : ℕ) → fill + 2089 * length calls ≤ length t → (ran_from s calls bits place t fill).stop ≡ By TranscriptRoom → ⊥
+from-never : (s : State) (calls : List Call) (bits : List ℕ) (place : ℕ) (t : List ℕ) (fill : ℕ) → fill + 2089 * length calls ≤ length t → (ran_from s calls bits place t fill).stop ≡ Err TranscriptRoom → ⊥
 unfolding ran_from ended with_call outcome_of
 from-never s [] bits place t fill h e = let z : ◌≡◌ {A = ℕ} 0 1 = cc in omega arith
 from-never s (call ∷ calls) bits place t fill h e =
@@ -268,12 +266,12 @@ from-never s (call ∷ calls) bits place t fill h e =
     rest : Outcome → Ran
     rest o = onward call s place t fill o.answer (λ p f. ran_from o.state calls bits p o.transcript f)
 
-    go : ((r : Record) (n : ℕ) → fill + length (record_bytes r) + 2089 * length calls ≤ length (sets t fill (record_bytes r)) → (ran_from (applied s r) calls bits (place + n) (sets t fill (record_bytes r)) (fill + length (record_bytes r))).stop ≡ By TranscriptRoom → ⊥)
-        → Kind s call bits place t fill → (rest (decoded s call bits place t fill)).stop ≡ By TranscriptRoom → ⊥
+    go : ((r : Record) (n : ℕ) → fill + length (record_bytes r) + 2089 * length calls ≤ length (sets t fill (record_bytes r)) → (ran_from (applied s r) calls bits (place + n) (sets t fill (record_bytes r)) (fill + length (record_bytes r))).stop ≡ Err TranscriptRoom → ⊥)
+        → Kind s call bits place t fill → (rest (decoded s call bits place t fill)).stop ≡ Err TranscriptRoom → ⊥
     go more (no why x) e =
-        let y : By why ≡ By TranscriptRoom = sym (ap (λ (o : Outcome). (rest o).stop) x) ∙ e in
+        let y : Err why ≡ Err TranscriptRoom = sym (ap (λ (o : Outcome). (rest o).stop) x) ∙ e in
         let w : why ≡ TranscriptRoom = cc in
-        decoded-never s call bits place t fill (omega arith) (x ∙ ap (λ (v : Refusal). kept s t (Refused v)) w)
+        decoded-never s call bits place t fill (omega arith) (x ∙ ap (λ (v : Refusal). kept s t (Err v)) w)
     go more (yes r n a g x) e =
         let range = path-range s call (drop place (bit_list bits)) r n a.ready g in
         let most = record-length r (head-range s.cols s.rows r a.ready.wide a.ready.high range) in
@@ -290,14 +288,14 @@ calls_count (suc count) s cs n e =
     sym (ap length m.2) ∙ ap suc (calls_count count (drop b.m s) m.0 b.k m.1)
 
 -- ROOM: whatever the header, the calls read behind it and the bits, the run does not stop by 8
-pub room-enough : (h : Header) → HeaderRange h → (s : List ℕ) (cs : List Call) (n : ℕ) → calls_from h.count s ≡ got cs n → (bits : List ℕ) → (ran (start h) cs bits 0 room).stop ≡ By TranscriptRoom → ⊥
+pub room-enough : (h : Header) → HeaderRange h → (s : List ℕ) (cs : List Call) (n : ℕ) → calls_from h.count s ≡ got cs n → (bits : List ℕ) → (ran (start h) cs bits 0 room).stop ≡ Err TranscriptRoom → ⊥
 unfolding ran ended room
 room-enough h r s cs n e bits x = go cs (calls_count h.count s cs n e) x
   where
-    asked : (a : Asked) → (a ≡ No TranscriptRoom → ⊥) → stop_of a ≡ By TranscriptRoom → ⊥
-    asked Yes k e = let z : ◌≡◌ {A = ℕ} 0 1 = cc in omega arith
-    asked (No why) k e = k (let w : why ≡ TranscriptRoom = cc in ap No w)
+    asked : (a : Asked) → (a ≡ Err TranscriptRoom → ⊥) → a ≡ Err TranscriptRoom → ⊥
+    asked (Ok u) k e = let z : ◌≡◌ {A = ℕ} 0 1 = cc in omega arith
+    asked (Err why) k e = k (let w : why ≡ TranscriptRoom = cc in ap Err w)
 
-    go : (calls : List Call) → length calls ≡ h.count → (ran (start h) calls bits 0 room).stop ≡ By TranscriptRoom → ⊥
+    go : (calls : List Call) → length calls ≡ h.count → (ran (start h) calls bits 0 room).stop ≡ Err TranscriptRoom → ⊥
     go [] l x = asked _ (run-never (start h) (length bits) 0) x
     go (call ∷ calls) l x = from-never (start h) (call ∷ calls) bits 0 room 0 (omega (arith, r.count, length-replicate {A = ℕ} 33424 0)) x

@@ -1,4 +1,3 @@
 pub mod Header
 pub mod Text
 pub mod Print
-pub mod InnerHeader

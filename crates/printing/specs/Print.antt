@@ -10,8 +10,8 @@ use Rattle.transcript.specs.Records.{records}
 use Rattle.state.specs.State.{State}
 use Rattle.macroblock.specs.Entry.{state_of}
 use Rattle.run.specs.Run.{Ran, ran, transcript_of}
-use Rattle.run.specs.declared.Stop.{Stop}
-use Rattle.run.specs.declared.Stop.TheVariants.{Done, By}
+use Rattle.run.specs.Run.{Stop}
+use Rattle.std.specs.Prelude.{Ok, Err}
 use Rattle.printing.specs.Text.{hex_line, bits_line, refused_line}
 use Rattle.printing.specs.Header.{header_in, calls_from, frame_of}
 use Rattle.printing.specs.declared.header.Header.{Header}
@@ -40,8 +40,8 @@ lines_of (got rs n) = record_lines rs
 lines_of (refused why) = []
 
 abbrev pub stop_lines : Stop → List ℕ
-stop_lines Done = []
-stop_lines (By why) = refused_line why
+stop_lines (Ok _) = []
+stop_lines (Err why) = refused_line why
 
 -- the records; `bits N`, of a run whose first place is 0; `refused C` at a refusal
 unfoldable pub printed_run : State → Ran → List ℕ

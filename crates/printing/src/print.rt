@@ -9,12 +9,13 @@ ghost use Rattle.printing.specs.Header.{HeaderRange};
 ghost use Rattle.printing.specs.Text.{bits_line};
 ghost use Rattle.printing.specs.Print.{start, room, lines_of, stop_lines, printed_run, printed};
 
-use crate::header::{Header, HeaderAnswer, ListEnd, frame_of, read_header, read_list};
+use crate::header::{Header, frame_of, read_header, read_list};
 use crate::text::{put_bits, put_hex_line, put_refused};
 use picture::Grid;
+use refusal::Refusal;
+use run::Report;
 use run::run::run;
-use run::{Report, Stop};
-use transcript::check::{RecordAnswer, check_record};
+use transcript::check::check_record;
 
 // The records of a transcript, each on a line.
 fn put_records(out: &mut [u8], transcript: &[u8], at: usize, grid: Grid) -> usize
@@ -25,7 +26,7 @@ fn put_records(out: &mut [u8], transcript: &[u8], at: usize, grid: Grid) -> usiz
     let mut p = at;
     let mut i = 0;
     while i < transcript.len() {
-        let RecordAnswer::Record(next) = check_record(transcript, i, grid) else {
+        let Ok(next) = check_record(transcript, i, grid) else {
             return p;
         };
         p = put_hex_line(out, &transcript[i..next], p);
@@ -34,18 +35,24 @@ fn put_records(out: &mut [u8], transcript: &[u8], at: usize, grid: Grid) -> usiz
     p
 }
 
-fn put_stop(out: &mut [u8], at: usize, stop: Stop) -> usize
+fn put_stop(out: &mut [u8], at: usize, stop: Result<(), Refusal>) -> usize
     requires { at + length (stop_lines stop) ≤ length out.old }
     ensures { Written out.old at (stop_lines stop) result out.new }
 {
     match stop {
-        Stop::Done => at,
-        Stop::By(why) => put_refused(out, at, why),
+        Ok(()) => at,
+        Err(why) => put_refused(out, at, why),
     }
 }
 
 // What a run did: its records, its bits, and the refusal that stopped it.
-fn put_run(out: &mut [u8], transcript: &[u8], grid: Grid, consumed: usize, stop: Stop) -> usize
+fn put_run(
+    out: &mut [u8],
+    transcript: &[u8],
+    grid: Grid,
+    consumed: usize,
+    stop: Result<(), Refusal>,
+) -> usize
     requires cols_bound { (grid.cols ≤ 4096) × (grid.rows ≤ 4096) × Recorded grid.cols grid.rows transcript.now }
     requires transcript_len_bound { (length transcript.now ≤ 33424) × (length out.old ≡ 100352) }
     ensures { (result ≤ 100352) × Written out.old 0 (lines_of (records grid.cols grid.rows transcript.now) ++ bits_line consumed ++ stop_lines stop) result out.new }
@@ -109,11 +116,11 @@ fn print_input(out: &mut [u8], input: &[u8]) -> usize
     ensures { (result ≤ 100352) × Written out.old 0 (printed input.now) result out.new }
 {
     match read_header(input) {
-        HeaderAnswer::Header(h, at) => match read_list(input, at, h.count) {
-            ListEnd::At(end) => print_list(out, &input[at..end], &input[end..], h),
-            ListEnd::Refused(why) => put_refused(out, 0, why),
+        Ok((h, at)) => match read_list(input, at, h.count) {
+            Ok(end) => print_list(out, &input[at..end], &input[end..], h),
+            Err(why) => put_refused(out, 0, why),
         },
-        HeaderAnswer::Refused(why) => put_refused(out, 0, why),
+        Err(why) => put_refused(out, 0, why),
     }
 }
 

@@ -41,7 +41,7 @@ use Rattle.state.specs.InnerSizes.{AllSized}
 use Rattle.state.specs.State.{State, context_of, lengths_of}
 use Rattle.macroblock.specs.Decode.{applied, Outcome, outcome_of, decoded}
 use Rattle.macroblock.specs.declared.MbReport.{MbReport}
-use Rattle.std.specs.Prelude.{Ok, Err}
+use Rattle.std.specs.Prelude.{Ok}
 use Rattle.theorems.specs.Trace.{Ready}
 use Rattle.theorems.specs.Samples.{Plane, Luma, Cb, Cr, reference_of, picture_of, unit_of, width_of, height_of, picture_at, reference_at, compensated_at, of_taps, quadrant_at, coded_at, luma_residual_at, chroma_residual_at, with_residual_at}
 use Rattle.theorems.proofs.Traces.{Kind, no, yes, kind}

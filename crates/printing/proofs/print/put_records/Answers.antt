@@ -4,45 +4,45 @@ use Prim.Native.Nat.{◌≤◌, ◌<◌}
 use native.Mathlib.Omega.{arith}
 use lib.ListN.{length, drop}
 use Rattle.record.specs.Parse.{parse_record}
-use Rattle.transcript.specs.InnerCheck.{record_answer}
-use Rattle.transcript.specs.declared.check.RecordAnswer.TheVariants.{Record}
+use Rattle.std.specs.Prelude.{Ok}
+use Rattle.refusal.specs.Answered.{reached}
 use Rattle.printing.proofs.Lines.{begin, end, in-form, further, there, fits, on}
-use Rattle.printing.proofs.print.put_records.Goals.{In-Record}
+use Rattle.printing.proofs.print.put_records.Goals.{In-Ok}
 use Rattle.printing.proofs.print.put_records.Goals as goal
 
 -- the record at i, which ends at `next`
-ends : (c : In-Record) → Record c.in-Record.next ≡ record_answer c.loop-i.i (parse_record c.args.grid.cols c.args.grid.rows (drop c.loop-i.i c.args.transcript.now))
-ends c = sym c.in-Record.is ∙ c.check_record.ensures
+ends : (c : In-Ok) → Ok c.in-Ok.next ≡ reached c.loop-i.i (parse_record c.args.grid.cols c.args.grid.rows (drop c.loop-i.i c.args.transcript.now))
+ends c = sym c.in-Ok.is ∙ c.check_record.ensures
 
-put-start : (c : In-Record) → c.loop-i.i < c.in-Record.next
+put-start : (c : In-Ok) → c.loop-i.i < c.in-Ok.next
 put-start c = further c.loop-i.invariant c.requires.cols_bound.0 c.requires.cols_bound.1 c.loop-i-test.true (ends c)
 
-put-end : (c : In-Record) → c.in-Record.next ≤ length c.args.transcript.now
+put-end : (c : In-Ok) → c.in-Ok.next ≤ length c.args.transcript.now
 put-end c = there c.loop-i.invariant c.requires.cols_bound.0 c.requires.cols_bound.1 c.loop-i-test.true (ends c)
 
 pub returns-in_default : goal.returns-in_default
 returns-in_default c = in-form c.loop-i.invariant c.requires.cols_bound.0 c.requires.cols_bound.1 c.loop-i-test.true (sym c.in_default.is ∙ c.check_record.ensures)
 
 pub put_hex_line-p-requires : goal.put_hex_line-p-requires
-put_hex_line-p-requires c = fits c.loop-i.invariant c.requires.cols_bound.0 c.requires.cols_bound.1 c.loop-i-test.true (ends (goal.at.put_hex_line-p-requires c).In-Record) c.requires.transcript_in_bounds
+put_hex_line-p-requires c = fits c.loop-i.invariant c.requires.cols_bound.0 c.requires.cols_bound.1 c.loop-i-test.true (ends (goal.at.put_hex_line-p-requires c).In-Ok) c.requires.transcript_in_bounds
 
 pub loop-i-preserved : goal.loop-i-preserved
-loop-i-preserved c = on c.loop-i.invariant c.requires.cols_bound.0 c.requires.cols_bound.1 c.loop-i-test.true (ends (goal.at.loop-i-preserved c).In-Record) c.put_hex_line-p.ensures
+loop-i-preserved c = on c.loop-i.invariant c.requires.cols_bound.0 c.requires.cols_bound.1 c.loop-i-test.true (ends (goal.at.loop-i-preserved c).In-Ok) c.put_hex_line-p.ensures
 
 pub loop-i-init : goal.loop-i-init
 loop-i-init c = begin c.requires.cols_bound.2 c.args.out.now c.args.at
 
 pub slice_bounds-put_hex_line-count : goal.slice_bounds-put_hex_line-count
-slice_bounds-put_hex_line-count c = omega (arith, put-start (goal.at.slice_bounds-put_hex_line-count c).In-Record)
+slice_bounds-put_hex_line-count c = omega (arith, put-start (goal.at.slice_bounds-put_hex_line-count c).In-Ok)
 
 pub slice_bounds-put_hex_line-start : goal.slice_bounds-put_hex_line-start
-slice_bounds-put_hex_line-start c = omega (arith, put-start (goal.at.slice_bounds-put_hex_line-start c).In-Record, put-end (goal.at.slice_bounds-put_hex_line-start c).In-Record)
+slice_bounds-put_hex_line-start c = omega (arith, put-start (goal.at.slice_bounds-put_hex_line-start c).In-Ok, put-end (goal.at.slice_bounds-put_hex_line-start c).In-Ok)
 
 pub slice_bounds-put_hex_line-end : goal.slice_bounds-put_hex_line-end
-slice_bounds-put_hex_line-end c = omega (arith, put-end (goal.at.slice_bounds-put_hex_line-end c).In-Record)
+slice_bounds-put_hex_line-end c = omega (arith, put-end (goal.at.slice_bounds-put_hex_line-end c).In-Ok)
 
 pub loop-i-smaller : goal.loop-i-smaller
-loop-i-smaller c = omega (arith, put-start (goal.at.loop-i-smaller c).In-Record, put-end (goal.at.loop-i-smaller c).In-Record)
+loop-i-smaller c = omega (arith, put-start (goal.at.loop-i-smaller c).In-Ok, put-end (goal.at.loop-i-smaller c).In-Ok)
 
 pub returns : goal.returns
 returns c = end c.loop-i.invariant c.loop-i-test.false
