@@ -36,6 +36,7 @@ pub fn split_mv_component(v: i32) -> MvComponentSplit
 }
 
 // How a block reads its taps: the phases, where its first tap lies, and whether all lie inside the plane.
+// `inside` is a field and no variant: phases and place are the same either way, and both chroma planes ask it once.
 #[derive(Clone, Copy)]
 pub struct Taps {
     pub phases: Phases,
@@ -77,6 +78,7 @@ pub fn taps_of(w: usize, h: usize, size: Size, x: i32, y: i32, vx: i32, vy: i32)
 }
 
 // A block some of whose taps lie past an edge.
+// `Span` is asked beside `BlockIn`, here and below: it is no fact of every `Block`.
 fn across_edge(dst: &mut [u8], plane: Plane, b: Block, t: Taps)
     requires { Span b.w b.h × BlockIn b (length dst.old) }
     ensures { dst.new ≡ block_painted b (tapped plane.entry.size t plane.entry.samples.now) dst.old }
@@ -88,7 +90,7 @@ fn across_edge(dst: &mut [u8], plane: Plane, b: Block, t: Taps)
     interpolate(dst, &window, b, 34, from, t.phases);
 }
 
-// A block by its taps.
+// A block by its taps. A slice and a size, not a `Plane`: the two planes of `compensate_both` have one size between them.
 pub fn compensate_taps(dst: &mut [u8], plane: &[u8], b: Block, size: Size, t: Taps)
     requires { Span b.w b.h × BlockIn b (length dst.old) × Whole size.width size.height (length plane.now) × TapsIn size.width size.height b.w b.h t }
     ensures { dst.new ≡ block_painted b (tapped size t plane.now) dst.old }
@@ -151,7 +153,7 @@ pub fn compensate_into(
     compensate_taps(dst, plane, b, size, t);
 }
 
-// The compensated block alone: `StateLength` for the plane, `CallRange` for the spans or the output's length; else `out` is the block.
+// The compensated block alone. Its numbers come one by one, as the C entry has them. `StateLength` for the plane, `CallRange` for the spans or the output's length; else `out` is the block.
 pub fn motion_compensate_block(
     out: &mut [u8],
     plane: &[u8],
