@@ -8,6 +8,7 @@ ghost use Rattle.vectors.specs.Modes.{num_motion_vectors};
 ghost use Rattle.apply.specs.Moved.{unit, vector_x, vector_y, moved_once, moved_up_to};
 ghost use Rattle.apply.specs.InnerMoved.{PlanesSized, part_block};
 
+use compensation::plane::Plane;
 use compensation::svq3_mc::{Taps, compensate_both, compensate_taps, taps_of};
 use picture::{Block, Grid, Size};
 use state::Call;
@@ -77,7 +78,11 @@ fn compensate_partition(
         height: 16 * grid.rows,
     };
     let t = taps_in(vectors, b, size, false, i);
-    compensate_taps(pic, reference, b, size, t);
+    let plane = Plane {
+        samples: reference,
+        size,
+    };
+    compensate_taps(pic, plane, b, t);
 }
 
 // All partitions of a macroblock's luma.

@@ -3,16 +3,15 @@
 use mathlib.Core.Path.{◌≡◌, sym, ap, ◌∙◌}
 use Prim.Native.Nat.{ℕ, ◌*◌, ◌/◌, ◌%◌, ◌≤◌, ◌<◌}
 use native.Mathlib.Omega.{arith}
-use lib.Dec.{T}
 use lib.IntN.{ℤ, pos, nat_abs, ◌+ℤ◌, ◌-ℤ◌, +ℤ_comm}
-use lib.Signed.{non_neg, pos-nat_abs}
+use lib.Signed.{pos-nat_abs}
 use mir.Syntax.{w32, w64}
-use mir.Val.{SFits, Fits, to_z}
+use mir.Val.{SFits, to_z}
 use mir.Facts.{to_z-of_z, to_z_pos}
 use Rattle.ints.specs.Z.{floor_z, mod_z}
 use Rattle.ints.proofs.Linear.{z-rules, add-z, diff-z, mag-z}
 use Rattle.ints.proofs.Laws.{floor-shift}
-use Rattle.ints.proofs.Fits.{read, signed, cast_unsigned}
+use Rattle.ints.proofs.Fits.{read, signed}
 use Rattle.ints.proofs.Same.{reads}
 
 -- z, which fits 64 bits, is the vector v raised by six times k; n is z as the machine casts it
@@ -27,9 +26,6 @@ module _ {v z : ℤ} (k : ℕ) (enough : 2147483648 ≤ 6 * k) (small : SFits w3
 
   pub raised-small : n < 9223372036854775808
   raised-small = omega (arith, z-rules, is ∙ +ℤ_comm v (pos (6 * k)) ∙ sym raised, mag-z z, fits.sfits)
-
-  pub raised-cast : T (non_neg (read w64 z)) × Fits w64 n
-  raised-cast = cast_unsigned w64 (to_z-of_z fits ∙ is ∙ +ℤ_comm v (pos (6 * k)) ∙ sym raised) (omega (arith, raised-small))
 
   pub raised-whole : to_z w64 (n / 6) -ℤ pos k ≡ floor_z v 6
   unfolding floor_z

@@ -151,12 +151,6 @@ extra-le px py = ⊎_elim (λ z. rw (z.0, z.1, extra-none) (omega arith)) (λ o.
 pub extra-zero : (px py : ℕ) → extra px py ≡ 0 → (px ≡ 0) × (py ≡ 0)
 extra-zero px py e = ⊎_elim (λ z. z) (λ o. absurd (omega arith)) (extra-or px py)
 
--- samples that are mixed read a row and a column more
-pub mixed-room : {w h : ℕ} (px py stride from n : ℕ) → Span w h → extra px py ≡ 1 → from + (h - 1 + extra px py) * stride + w + extra px py ≤ n → from + h * stride + w < n
-mixed-room {w} {h} px py stride from n s one le =
-    let rows : h - 1 + 1 ≡ h = omega arith in
-    let room : from + h * stride + w + 1 ≤ n = rw (one, rows) at le in omega arith
-
 -- ---- the taps as they are gathered: the columns are listed once
 columns-at : (width bx k : ℕ) → k < 17 → get_or (row (replicate 17 0) 0 (near_from width bx) 17) k 0 ≡ near width (bx + k)
 unfolding near_from
@@ -165,10 +159,6 @@ columns-at width bx k h = rw zero-add at (row_same (replicate 17 0) 0 (near_from
 near-below : (n i : ℕ) → 0 < n → near n i < n
 unfolding near
 near-below n i h = omega arith
-
--- a column of the plane
-pub line-place : {width height size line a : ℕ} → Whole width height size → line < height → a < width → line * width + a < size
-line-place {width} {height} full lt la = omega (arith, full.all, more width lt, mul_comm height width)
 
 module _ (width bx : ℕ) {columns : List ℕ} (is : columns ≡ row (replicate 17 0) 0 (near_from width bx) 17) where
   pub column-is : (k : ℕ) → k < 17 → get_or columns k 0 ≡ near width (bx + k)

@@ -12,10 +12,6 @@ use Rattle.picture.proofs.Laws.{row_same, row_other}
 use Rattle.compensation.specs.InnerKernel.{near, near_from, picked, picked_at, line_at, window_at, window_block, four_block, run_at, edge_at, Wide}
 use Rattle.compensation.proofs.Taps.{four-taps, column-is}
 
--- no row
-pub wide-none : (l : List ℕ) (from : ℕ) (v : ℕ → ℕ → ℕ) → Wide l from 0 v
-wide-none l from v = record { at = λ r c lr lc. absurd (omega arith) }
-
 -- one more
 pub wide-more : {l : List ℕ} {from r : ℕ} {v : ℕ → ℕ → ℕ} → Wide l from r v → ((c : ℕ) → c < 17 → get_or l (from + r * 34 + c) 0 ≡ v r c) → Wide l from (r + 1) v
 wide-more {l} {from} {r} {v} p e =

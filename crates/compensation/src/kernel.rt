@@ -125,7 +125,7 @@ pub fn extra_of(p: Phases) -> usize
     if p.px == 0 && p.py == 0 { 0 } else { 1 }
 }
 
-// Whole samples: rows that are copied. The width is a number of its own, so that it can be a literal.
+// Whole samples: rows that are copied. The width is a number of its own, so that it can be a literal; not a const parameter, for widths of no partition share the loop.
 fn copy_rows(dst: &mut [u8], src: &[u8], b: Block, w: usize, stride: usize, from: usize)
     requires w_value { w ≡ b.w }
     requires span { Span b.w b.h × BlockIn b (length dst.old) × (from + (b.h - 1) * stride + b.w ≤ length src.now) }

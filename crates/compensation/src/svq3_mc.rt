@@ -36,6 +36,7 @@ pub fn split_mv_component(v: i32) -> MvComponentSplit
 }
 
 // How a block reads its taps: the phases, where its first tap lies, and whether all lie inside the plane.
+// `inside` is a field and no variant: phases and place are the same either way, and both chroma planes ask it once.
 #[derive(Clone, Copy)]
 pub struct Taps {
     pub phases: Phases,
@@ -77,6 +78,7 @@ pub fn taps_of(w: usize, h: usize, size: Size, x: i32, y: i32, vx: i32, vy: i32)
 }
 
 // A block some of whose taps lie past an edge.
+// `Span` is asked beside `BlockIn`, here and below: it is no fact of every `Block`.
 fn across_edge(dst: &mut [u8], plane: Plane, b: Block, t: Taps)
     requires { Span b.w b.h × BlockIn b (length dst.old) }
     ensures { dst.new ≡ block_painted b (tapped plane.entry.size t plane.entry.samples.now) dst.old }
@@ -89,27 +91,20 @@ fn across_edge(dst: &mut [u8], plane: Plane, b: Block, t: Taps)
 }
 
 // A block by its taps.
-pub fn compensate_taps(dst: &mut [u8], plane: &[u8], b: Block, size: Size, t: Taps)
-    requires { Span b.w b.h × BlockIn b (length dst.old) × Whole size.width size.height (length plane.now) × TapsIn size.width size.height b.w b.h t }
-    ensures { dst.new ≡ block_painted b (tapped size t plane.now) dst.old }
+pub fn compensate_taps(dst: &mut [u8], plane: Plane, b: Block, t: Taps)
+    requires { Span b.w b.h × BlockIn b (length dst.old) × TapsIn plane.size.width plane.size.height b.w b.h t }
+    ensures { dst.new ≡ block_painted b (tapped plane.entry.size t plane.entry.samples.now) dst.old }
 {
     if t.inside {
-        let from = (t.oy as usize) * size.width + (t.ox as usize);
-        interpolate(dst, plane, b, size.width, from, t.phases);
+        let width = plane.size.width;
+        let from = (t.oy as usize) * width + (t.ox as usize);
+        interpolate(dst, plane.samples, b, width, from, t.phases);
     } else {
-        across_edge(
-            dst,
-            Plane {
-                samples: plane,
-                size,
-            },
-            b,
-            t,
-        );
+        across_edge(dst, plane, b, t);
     }
 }
 
-// The same block of two planes of the same size, each into the place that its source has it at.
+// The same block of two planes of the same size, each into the place that its source has it at. No `Plane`s: they have one size between them.
 pub fn compensate_both(
     cb: &mut [u8],
     cr: &mut [u8],
@@ -134,24 +129,15 @@ pub fn compensate_both(
 }
 
 // The block at (x, y) of `plane` with the vector (vx, vy), into the block b of `dst`.
-pub fn compensate_into(
-    dst: &mut [u8],
-    plane: &[u8],
-    b: Block,
-    size: Size,
-    x: i32,
-    y: i32,
-    vx: i32,
-    vy: i32,
-)
-    requires { Span b.w b.h × BlockIn b (length dst.old) × Whole size.width size.height (length plane.now) }
-    ensures { dst.new ≡ block_painted b (block_sample plane.now size.width size.height x y vx vy) dst.old }
+pub fn compensate_into(dst: &mut [u8], plane: Plane, b: Block, x: i32, y: i32, vx: i32, vy: i32)
+    requires { Span b.w b.h × BlockIn b (length dst.old) }
+    ensures { dst.new ≡ block_painted b (block_sample plane.entry.samples.now plane.entry.size.width plane.entry.size.height x y vx vy) dst.old }
 {
-    let t = taps_of(b.w, b.h, size, x, y, vx, vy);
-    compensate_taps(dst, plane, b, size, t);
+    let t = taps_of(b.w, b.h, plane.size, x, y, vx, vy);
+    compensate_taps(dst, plane, b, t);
 }
 
-// The compensated block alone: `StateLength` for the plane, `CallRange` for the spans or the output's length; else `out` is the block.
+// The compensated block alone. Its numbers come one by one, as the C entry has them. `StateLength` for the plane, `CallRange` for the spans or the output's length; else `out` is the block.
 pub fn motion_compensate_block(
     out: &mut [u8],
     plane: &[u8],
@@ -180,8 +166,11 @@ pub fn motion_compensate_block(
         w,
         h,
     };
-    let size = Size { width, height };
-    compensate_into(out, plane, whole, size, x, y, vx, vy);
+    let plane = Plane {
+        samples: plane,
+        size: Size { width, height },
+    };
+    compensate_into(out, plane, whole, x, y, vx, vy);
     Ok(())
 }
 

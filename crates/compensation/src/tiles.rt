@@ -58,6 +58,7 @@ fn load_tile<const W: usize, const H: usize>(src: &[u8], from: usize, stride: us
 }
 
 // The same places of two planes: the second's lanes follow the first's.
+// Two planes have functions of their own: the borrow checker does not cover an array of slices whose length is a const parameter (tried).
 fn load_both<const W: usize, const H: usize>(
     cb: &[u8],
     cr: &[u8],
@@ -200,6 +201,7 @@ fn mix_pair(cb: &mut [u8], cr: &mut [u8], rcb: &[u8], rcr: &[u8], b: Block, from
 }
 
 // The block whose taps start at `from` of `src`, at the phases p.
+// `src`, `stride` and `from` are no struct: how far the taps reach depends on the block and the phases, so such a struct would have no fact to keep.
 pub fn interpolate(dst: &mut [u8], src: &[u8], b: Block, stride: usize, from: usize, p: Phases)
     requires { Span b.w b.h × BlockIn b (length dst.old) × (from + (b.h - 1 + extra p.px p.py) * stride + b.w + extra p.px p.py ≤ length src.now) }
     ensures { dst.new ≡ block_painted b (four_block (formula p.px p.py) src.now stride from) dst.old }

@@ -18,11 +18,16 @@ taps_in-t-requires c =
     let r = ready false a.call a.i a.grid.cols a.grid.rows c.block_of-b.ensures refl c.requires.within.0 c.requires.within.1 c.requires.within.2 c.requires.planes_sized.0.0 c.requires.planes_sized.0.1 in
     record { width_nonzero = (r.2.columns.0, r.2.columns.1, r.2.lines.0, r.2.lines.1, sixteen (goal.at.taps_in-t-requires c).Start, c.requires.planes_sized.1); span = (r.0, r.3, r.4) }
 
+pub invariant_of-plane : goal.invariant_of-plane
+invariant_of-plane c =
+    let a = c.args in
+    record { whole = (ready false a.call a.i a.grid.cols a.grid.rows c.block_of-b.ensures refl c.requires.within.0 c.requires.within.1 c.requires.within.2 c.requires.planes_sized.0.0 c.requires.planes_sized.0.1).2 }
+
 pub compensate_taps-requires : goal.compensate_taps-requires
 compensate_taps-requires c =
     let a = c.args in
     let r = ready false a.call a.i a.grid.cols a.grid.rows c.block_of-b.ensures refl c.requires.within.0 c.requires.within.1 c.requires.within.2 c.requires.planes_sized.0.0 c.requires.planes_sized.0.1 in
-    (r.0, r.1, r.2, c.taps_in-t.ensures.taps_in)
+    (r.0, r.1, c.taps_in-t.ensures.taps_in)
 
 pub returns : goal.returns
 returns c =

@@ -18,11 +18,16 @@ unfolding block_answer block_out when◌then◌else◌
 returns-then-not-sides_fit-2 c =
     rw (sym c.sides_fit.ensures ∙ c.if-not-sides_fit.false, sym c.sides_fit-2.ensures ∙ c.if-not-sides_fit-2.true) (record { value = refl; out_after = refl })
 
+pub invariant_of-plane : goal.invariant_of-plane
+invariant_of-plane c =
+    let a = c.args in
+    record { whole = plane-whole a.width a.height (length a.plane.now) (sym c.sides_fit.ensures ∙ c.if-not-sides_fit.false) }
+
 pub compensate_into-requires : goal.compensate_into-requires
 compensate_into-requires c =
     let a = c.args in
     let s = spans a.w a.h (length a.out.now) (sym c.sides_fit-2.ensures ∙ c.if-not-sides_fit-2.false) in
-    (s.0, block_inside s.0 s.1, plane-whole a.width a.height (length a.plane.now) (sym c.sides_fit.ensures ∙ c.if-not-sides_fit.false))
+    (s.0, block_inside s.0 s.1)
 
 pub returns : goal.returns
 unfolding block_answer block_out when◌then◌else◌
