@@ -20,6 +20,7 @@ use Rattle.vectors.proofs.Tests.{and_left, and_right, same_test}
 use Rattle.picture.specs.Field.{Field}
 use Rattle.vectors.specs.Predict.{vector, cell_at, near_at}
 pub use Rattle.vectors.specs.InnerWindow.{FieldSized}
+use Rattle.vectors.specs.InnerWindow.{shown}
 use Rattle.vectors.specs.Stored.{pair_of, stored_vectors, stored_marks, stored_field}
 use Rattle.std.specs.Prelude.{Option, Some, None}
 use Rattle.vectors.specs.declared.svq3_frame.Vector.{Vector}
@@ -58,10 +59,6 @@ marks-length marks s x y w h = painted-length s x y w h (always 1) marks
 painted-at : {A : Type 0} (s x y w h : ℕ) (v : ℕ → ℕ → A) (l : List A) (i : ℕ) (d : A) → i < length l → get_or (painted s x y w h v l) i d ≡ cond (inside s x y w h i) (v (i / s - y) (i % s - x)) (get_or l i d)
 unfolding painted
 painted-at s x y w h v l i d lt = each_at_lem _ l i d lt
-
--- by its mark and its numbers
-abbrev pub shown : ℕ → ℤ → ℤ → Option Vector
-shown m a b = when eqb m 0 then None else Some (vector a b)
 
 -- column c of row r, in rows of s cells: number e of its two stands in column 2 · c + e of 2 · s
 module _ (s x y w h r c : ℕ) (lc : c < s) where
@@ -118,9 +115,9 @@ module _ (s x y w h r c : ℕ) (lc : c < s) where
   stored-cell vx vy mv marks twice lt =
       let x₀ = rw add-zero at (number_at 0 (omega arith) vx vy mv (omega arith)) in
       let y₀ = number_at 1 (omega arith) vx vy mv (omega arith) in
-      (λ i. shown (mark-at marks lt i) (x₀ i) (y₀ i)) ∙ go belongs _ _ _
+      (λ i. shown (mark-at marks lt i) (vector (x₀ i) (y₀ i))) ∙ go belongs _ _ _
     where
-      go : (t : Bool) (m : ℕ) (a b : ℤ) → shown (cond t 1 m) (cond t vx a) (cond t vy b) ≡ cond t (Some (vector vx vy)) (shown m a b)
+      go : (t : Bool) (m : ℕ) (a b : ℤ) → shown (cond t 1 m) (vector (cond t vx a) (cond t vy b)) ≡ cond t (Some (vector vx vy)) (shown m (vector a b))
       go true m a b = refl
       go false m a b = refl
 

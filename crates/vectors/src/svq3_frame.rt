@@ -1,10 +1,10 @@
 // A partition's vector: predicted from its neighbours, turned to the precision's unit, moved by a difference, and stored.
-ghost use Rattle.std.specs.Prelude.{◌≡◌, ◌||◌, ◌+◌, ◌*◌, ◌≤◌, pos, nat_abs, ◌+ℤ◌, ◌*ℤ◌, length};
+ghost use Rattle.std.specs.Prelude.{◌≡◌, ◌||◌, ◌+◌, ◌*◌, ◌≤◌, ◌<◌, pos, nat_abs, ◌+ℤ◌, ◌*ℤ◌, length};
 ghost use Rattle.ints.specs.Z.{sat_z, over_z, floor_z};
 ghost use Rattle.picture.specs.Painted.{Inside};
 ghost use Rattle.picture.specs.Picture.{always};
 ghost use Rattle.picture.specs.InnerRows.{row};
-ghost use Rattle.vectors.specs.Predict.{median_of, combined, held_in};
+ghost use Rattle.vectors.specs.Predict.{vector_in, median_of, combined, held_in};
 ghost use Rattle.vectors.specs.InnerSamples.{units_in_sample};
 ghost use Rattle.vectors.specs.Units.{convert_predictor, stored_scale, stored_part, clipped_part};
 ghost use Rattle.vectors.specs.Stored.{pair_of, stored_vectors, stored_marks};
@@ -26,6 +26,19 @@ pub struct Units(pub i32);
 pub struct Vector {
     pub x: Sixths,
     pub y: Sixths,
+}
+
+impl Vector {
+    // Vector i of a list of numbers, two for each.
+    pub fn at(mv: &[i32], i: usize) -> Self
+        requires { 2 * i + 1 < length mv.now }
+        ensures { result ≡ vector_in mv.now i }
+    {
+        Vector {
+            x: Sixths(mv[2 * i]),
+            y: Sixths(mv[2 * i + 1]),
+        }
+    }
 }
 
 // The median of each component.

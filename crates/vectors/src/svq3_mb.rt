@@ -4,6 +4,7 @@ ghost use Rattle.bits.specs.Bits.{bit_list};
 ghost use Rattle.refusal.specs.Answered.{answered};
 ghost use Rattle.vectors.specs.Modes.{partition_width, partition_height, num_motion_vectors, offset_x, offset_y};
 ghost use Rattle.vectors.specs.Precision.{precision_number, one_flag, both_flags, precision};
+ghost use Rattle.vectors.specs.InnerWindow.{Part};
 ghost use Rattle.vectors.specs.InnerPrecision.{first_bit};
 
 use bits::bitreader::bit_at;
@@ -65,6 +66,31 @@ pub fn partition_offset_y(mode: u32, i: usize) -> usize
     let w = partition_width(mode);
     let h = partition_height(mode);
     i * w / 16 * h
+}
+
+// Where a partition lies in its macroblock, in 4 × 4 cells.
+#[derive(Clone, Copy)]
+pub struct Partition {
+    pub x: usize,
+    pub y: usize,
+    pub wide: usize,
+    pub high: usize,
+    pub ghost lies: { Part x y wide high },
+}
+
+impl Partition {
+    // Partition i of a mode.
+    pub fn of_mode(mode: u32, i: usize) -> Self
+        requires { (mode ≤ 7) × (i < num_motion_vectors mode) }
+        ensures { (result.x ≡ offset_x mode i / 4) × (result.y ≡ offset_y mode i / 4) × (result.wide ≡ partition_width mode / 4) × (result.high ≡ partition_height mode / 4) }
+    {
+        Partition {
+            x: partition_offset_x(mode, i) / 4,
+            y: partition_offset_y(mode, i) / 4,
+            wide: partition_width(mode) / 4,
+            high: partition_height(mode) / 4,
+        }
+    }
 }
 
 #[derive(Clone, Copy)]
