@@ -31,10 +31,10 @@ module _ (k : ℕ) (low : 1179648 ≤ k) (high : k < 2 ^ 21) (v : ℤ) (h : nat_
   abbrev raised : ℤ
   raised = v +ℤ pos k
 
-  pub raised-fits : SFits w32 raised
+  raised-fits : SFits w32 raised
   raised-fits = record { sfits = omega (arith, abs-z v, add-z v (pos k), mag-z v, mag-z raised) }
 
-  pub raised-read : read w32 raised ≡ pos (up raised)
+  raised-read : read w32 raised ≡ pos (up raised)
   raised-read = to_z-of_z raised-fits ∙ omega (arith, z-rules, abs-z v, add-z v (pos k), mag-z v, mag-z raised)
 
   raised-number : nat_abs (read w32 raised) ≡ up raised
@@ -43,13 +43,10 @@ module _ (k : ℕ) (low : 1179648 ≤ k) (high : k < 2 ^ 21) (v : ℤ) (h : nat_
   raised-small : up raised < 2 ^ 22
   raised-small = omega (arith, abs-z v, add-z v (pos k), mag-z raised)
 
-  pub raised-word : up raised < 2 ^ 32
-  raised-word = omega (arith, raised-small)
-
-  pub number_small : nat_abs (read w32 raised) < 2 ^ 22
+  number_small : nat_abs (read w32 raised) < 2 ^ 22
   number_small = rw raised-number raised-small
 
-  pub less-fits : SFits w32 (to_z w32 (nat_abs (read w32 raised) / 6) -ℤ pos 262144)
+  less-fits : SFits w32 (to_z w32 (nat_abs (read w32 raised) / 6) -ℤ pos 262144)
   less-fits = rw (to_z_pos w32 {n = nat_abs (read w32 raised) / 6} (omega (arith, number_small))) (record { sfits = omega (arith, z-rules, number_small, diff-z (pos (nat_abs (read w32 raised) / 6)) (pos 262144), mag-z (pos (nat_abs (read w32 raised) / 6) -ℤ pos 262144)) })
 
   -- a sixth of k is 262144, and 3 remain
@@ -59,9 +56,6 @@ module _ (k : ℕ) (low : 1179648 ≤ k) (high : k < 2 ^ 21) (v : ℤ) (h : nat_
       ∙ rw raised-number
       (ap (λ z. z -ℤ pos 262144) (to_z_pos w32 {n = up raised / 6} (omega (arith, raised-small)))
       ∙ omega (arith, z-rules, abs-z v, add-z v (pos k), mag-z raised, diff-z (pos (up raised / 6)) (pos 262144), floor-z 6 (v +ℤ pos 3) (omega arith), add-z v (pos 3)))
-
-pub sixth-small : (n : ℕ) → n < 2 ^ 22 → n / 6 < 2 ^ 31
-sixth-small n h = omega arith
 
 -- ---- a predictor in units, at each precision: units of a sample times it, a sixth of that rounded
 rounded : (v : ℤ) → floor_z (v +ℤ pos 3) 6 ≡ round_to_sixths v

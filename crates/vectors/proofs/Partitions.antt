@@ -4,10 +4,11 @@ use mathlib.Core.Path.{◌≡◌, refl, sym, ap, ◌∙◌, subst}
 use mathlib.Core.Bool.{Bool, true, false, ◌&&◌}
 use mathlib.Core.Logic.{◌↔◌, ⊎_elim}
 use Prim.Native.Nat.{ℕ, zero, suc, ◌+◌, ◌*◌, ◌/◌, ◌%◌, ◌^◌, ◌<◌, ◌≤◌}
-use native.Mathlib.Nat.{mul_assoc, div-one, mul-le-mul_right, mod-lt, mod-eq_of_lt, div-add-mod', div-mul-le_self, lt-div-mul-add, div-lt_iff_lt-mul, div-eq_of_lt-le, div-eq_of_lt, mul-add-div_right, mul-add-mod_self_right, mul-div_cancel, eq-or-lt_of_le, le_of_suc-le-suc}
+use native.Mathlib.Nat.{mul_assoc, mul-mod_left, div-one, mul-le-mul_right, mod-lt, mod-eq_of_lt, div-add-mod', div-mul-le_self, lt-div-mul-add, div-lt_iff_lt-mul, div-eq_of_lt-le, div-eq_of_lt, mul-add-div_right, mul-add-mod_self_right, mul-div_cancel, eq-or-lt_of_le, le_of_suc-le-suc}
 use native.Mathlib.Omega.{arith}
 use lib.Pow.{pow_pos}
 use lib.Dec.{T, eqb, ltb, leb, eqb→eq, ltb→lt, leb→le}
+use Rattle.vectors.specs.InnerWindow.{Part}
 use Rattle.vectors.specs.Modes.{partition_width, partition_height, num_motion_vectors, offset_x, offset_y}
 
 -- ---- spans of equal width: place a is in span j exactly where its quotient is j
@@ -121,6 +122,20 @@ inside-units e mode i h k l =
 
 pub inside : (mode i : ℕ) → mode ≤ 7 → i < num_motion_vectors mode → (offset_x mode i + partition_width mode ≤ 16) × (offset_y mode i + partition_height mode ≤ 16)
 inside mode i k l = simp div-one at (inside-units 0 mode i (omega arith) k l)
+
+-- a partition of a mode, in cells
+pub part_of : (mode i : ℕ) → mode ≤ 7 → i < num_motion_vectors mode → Part (offset_x mode i / 4) (offset_y mode i / 4) (partition_width mode / 4) (partition_height mode / 4)
+part_of mode i k l =
+    let h = inside-units 2 mode i (omega arith) k l in
+    let c = cut 2 mode (omega arith) k in
+    record {
+      across = h.0;
+      down = h.1;
+      wide_some = c.wide;
+      high_some = c.high;
+      left = ap (λ (n : ℕ). n % (partition_width mode / 4)) (offset-x 4 mode i (omega arith) c) ∙ mul-mod_left (i % (16 / partition_width mode)) (partition_width mode / 4);
+      top = ap (λ (n : ℕ). n % (partition_height mode / 4)) (offset-y 4 mode i (omega arith) c) ∙ mul-mod_left (i / (16 / partition_width mode)) (partition_height mode / 4);
+    }
 
 -- ---- partition i holds the place (a, b) of its macroblock, in units of u samples
 pub record Holds (u mode i a b : ℕ) : Type 0 where

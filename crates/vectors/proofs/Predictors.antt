@@ -2,20 +2,20 @@
 -- Assumes nothing.
 use mathlib.Core.Path.{ap, ◌≡◌, refl, ◌∙◌}
 use mathlib.Core.Bool.{Bool, true, false, ◌||◌}
-use mathlib.Core.List.{List}
 use Prim.Native.Nat.{ℕ, ◌+◌, ◌-◌, ◌*◌, ◌≤◌, ◌<◌, zero-le}
 use native.Mathlib.Omega.{arith}
 use borrow.Author.Tests.{lt-ltb, le-ltb}
 use lib.Dec.{eqb}
 use lib.ListN.{get_or}
 use lib.IntN.{ℤ, pos, nat_abs, ◌+ℤ◌, ◌-ℤ◌}
-use mir.Syntax.{w32, w64}
-use mir.Val.{to_z, bool_byte}
+use mir.Val.{bool_byte}
 use Rattle.ints.specs.Z.{when◌then◌else◌, clamp_z}
 use Rattle.ints.proofs.Fits.{if_yes, if_no}
 use Rattle.ints.proofs.Linear.{z-rules, diff-z, abs-z, mag-z}
 use Rattle.ints.proofs.Laws.{clamp-low, clamp-high}
-use Rattle.vectors.specs.Predict.{vector, cell_at, present, or_else, vector_of, median_of, combined, held_in}
+use Rattle.vectors.specs.InnerWindow.{shown_at}
+use Rattle.vectors.specs.declared.window.Neighbours.{Neighbours}
+use Rattle.vectors.specs.Predict.{vector, present, or_else, vector_of, median_of, combined, held_in}
 use Rattle.vectors.specs.declared.svq3_frame.Vector.{Vector}
 use Rattle.vectors.proofs.Tests.{neither}
 use Rattle.std.specs.Prelude.{Option, Some, None, is_some}
@@ -41,28 +41,28 @@ module _ (a b c : Option Vector) {l m n : ℕ} (p : l ≡ present a) (q : m ≡ 
   several h = if_no _ _ _ (le-ltb (present a + present b + present c) 2 (omega arith))
 
 -- ---- of cells by their marks
--- C, or D where C is marked 0
-pub third : (mv : List ℤ) (marks : List ℕ) (c d : ℕ) → cell_at mv marks (when eqb (get_or marks c 0) 0 then d else c) ≡ or_else (cell_at mv marks c) (cell_at mv marks d)
-unfolding cell_at when◌then◌else◌
-third mv marks c d = go (eqb (get_or marks c 0) 0) refl
-  where
-    go : (t : Bool) → eqb (get_or marks c 0) 0 ≡ t → cell_at mv marks (when t then d else c) ≡ or_else (cell_at mv marks c) (cell_at mv marks d)
-    go true e = rw e refl
-    go false e = rw e refl
+module _ (n : Neighbours) where
+  -- C, or D where C is marked 0
+  pub third : (c d : ℕ) → shown_at n (when eqb (get_or n.marks c 0) 0 then d else c) ≡ or_else (shown_at n c) (shown_at n d)
+  unfolding shown_at when◌then◌else◌
+  third c d = go (eqb (get_or n.marks c 0) 0) refl
+    where
+      go : (t : Bool) → eqb (get_or n.marks c 0) 0 ≡ t → shown_at n (when t then d else c) ≡ or_else (shown_at n c) (shown_at n d)
+      go true e = rw e refl
+      go false e = rw e refl
 
--- none of three is marked 0
-module _ (mv : List ℤ) (marks : List ℕ) where
+  -- none of three is marked 0
   abbrev at : ℕ → Vector
-  at i = vector (get_or mv (2 * i) (pos 0)) (get_or mv (2 * i + 1) (pos 0))
+  at i = get_or n.vectors i (vector (pos 0) (pos 0))
 
-  cell-here : (i : ℕ) → eqb (get_or marks i 0) 0 ≡ false → cell_at mv marks i ≡ Some (at i)
-  unfolding cell_at
+  cell-here : (i : ℕ) → eqb (get_or n.marks i 0) 0 ≡ false → shown_at n i ≡ Some (at i)
+  unfolding shown_at
   cell-here i e = if_no _ _ _ e
 
-  pub all_here : (a b c : ℕ) → ((eqb (get_or marks a 0) 0 || eqb (get_or marks b 0) 0) || eqb (get_or marks c 0) 0) ≡ false → combined (cell_at mv marks a) (cell_at mv marks b) (cell_at mv marks c) ≡ median_of (at a) (at b) (at c)
+  pub all_here : (a b c : ℕ) → ((eqb (get_or n.marks a 0) 0 || eqb (get_or n.marks b 0) 0) || eqb (get_or n.marks c 0) 0) ≡ false → combined (shown_at n a) (shown_at n b) (shown_at n c) ≡ median_of (at a) (at b) (at c)
   all_here a b c e =
-      let k = neither (eqb (get_or marks a 0) 0 || eqb (get_or marks b 0) 0) (eqb (get_or marks c 0) 0) e in
-      let l = neither (eqb (get_or marks a 0) 0) (eqb (get_or marks b 0) 0) k.0 in
+      let k = neither (eqb (get_or n.marks a 0) 0 || eqb (get_or n.marks b 0) 0) (eqb (get_or n.marks c 0) 0) e in
+      let l = neither (eqb (get_or n.marks a 0) 0) (eqb (get_or n.marks b 0) 0) k.0 in
       (λ i. combined (cell-here a l.0 i) (cell-here b l.1 i) (cell-here c k.1 i))
       ∙ several (Some (at a)) (Some (at b)) (Some (at c)) refl refl refl (omega arith)
 

@@ -7,22 +7,55 @@ use Prim.Native.Nat.{ℕ, ◌+◌, ◌-◌, ◌*◌, ◌/◌, ◌%◌, ◌≤◌
 use native.Mathlib.Nat.{add-zero}
 use native.Mathlib.Omega.{arith}
 use lib.Arith.{digits_div, digits_mod}
-use borrow.Author.Tests.{ltb-true, lt-ltb}
+use borrow.Author.Tests.{ltb-true, ltb-false, lt-ltb}
 use lib.Dec.{eqb, ltb}
 use lib.IntN.{ℤ, pos}
-use lib.ListN.{length, get_or}
+use lib.ListN.{length, get_or, drop, replicate, length-take, length-drop, length-replicate, get_or-replicate}
+use lib.Seq.{ext_get_or}
+use borrow.Rule.Slice.PartMut.{mid_of, put_mid, same_len_mid}
+use lib.LanesLaws.{put_is}
+use Rattle.std.specs.Simd.Lanes.{put_chunk}
+use Rattle.std.proofs.lemmas.Simd.{get_or-put_chunk_below, get_or-put_chunk_at, get_or-put_chunk_above}
 use Rattle.ints.specs.Z.{when◌then◌else◌}
 use Rattle.picture.specs.InnerRows.{row, rows}
 use Rattle.picture.specs.Painted.{within, inside, painted, Inside}
 use Rattle.picture.specs.Picture.{cell_count, always, filled}
-use Rattle.picture.proofs.Laws.{more, rows_more, each_at_lem, painted-length, within-true, within_in}
+use Rattle.picture.proofs.Laws.{more, row-length, row_same, row_other, rows_more, each_at_lem, painted-length, within-true, within_in}
 use Rattle.vectors.proofs.Tests.{and_left, and_right, same_test}
 use Rattle.picture.specs.Field.{Field}
 use Rattle.vectors.specs.Predict.{vector, cell_at, near_at}
 pub use Rattle.vectors.specs.InnerWindow.{FieldSized}
+use Rattle.vectors.specs.InnerWindow.{shown}
 use Rattle.vectors.specs.Stored.{pair_of, stored_vectors, stored_marks, stored_field}
 use Rattle.std.specs.Prelude.{Option, Some, None}
 use Rattle.vectors.specs.declared.svq3_frame.Vector.{Vector}
+
+-- ---- a part that is filled is a row of stores
+pub filled-row : {A : Type 0} (d : A) (l : List A) (a n : ℕ) (v : A) {k : ℕ} {ys : List A} → k ≡ n → ys ≡ replicate (length (mid_of a k l)) v → a + n ≤ length l → put_mid a k l ys ≡ row l a (λ i. v) n
+filled-row d l a n v {k} {ys} e f h = ext_get_or d (put_mid a k l ys) (row l a (λ i. v) n)
+    (same_len_mid a k l ys (size ∙ sym part) ∙ sym (row-length l a (λ i. v) n))
+    (λ i lt. ap (λ zs. get_or zs i d) chunk ∙ go i (ltb i a) refl (ltb i (a + n)) refl)
+  where
+    part : length (mid_of a k l) ≡ n
+    part = omega (arith, e, length-take k (drop a l), length-drop a l)
+
+    size : length ys ≡ n
+    size = ap length f ∙ length-replicate (length (mid_of a k l)) v ∙ part
+
+    chunk : put_mid a k l ys ≡ put_chunk a l ys
+    chunk = ap (λ m. put_mid a m l ys) (e ∙ sym size) ∙ sym (put_is a l ys (omega (arith, size)))
+
+    go : (i : ℕ) (s : Bool) → ltb i a ≡ s → (t : Bool) → ltb i (a + n) ≡ t → get_or (put_chunk a l ys) i d ≡ get_or (row l a (λ j. v) n) i d
+    go i true p t q = let b = ltb-true i a p in get_or-put_chunk_below a l ys i d b ∙ sym (row_other l a (λ j. v) n i d (λ j lt. omega arith))
+    go i false p true q =
+        let b = ltb-false i a p in
+        let c = ltb-true i (a + n) q in
+        let g : i ≡ a + (i - a) = omega arith in
+        ap (λ j. get_or (put_chunk a l ys) j d) g
+        ∙ get_or-put_chunk_at a l ys (i - a) d (omega (arith, size)) (omega (arith, size))
+        ∙ ap (λ zs. get_or zs (i - a) d) f ∙ get_or-replicate (length (mid_of a k l)) (i - a) v d (omega (arith, part))
+        ∙ sym (ap (λ j. get_or (row l a (λ j. v) n) j d) g ∙ row_same l a (λ j. v) n (i - a) d (omega arith) h)
+    go i false p false q = let c = ltb-false i (a + n) q in get_or-put_chunk_above a l ys i d (omega (arith, size)) ∙ sym (row_other l a (λ j. v) n i d (λ j lt. omega arith))
 
 -- ---- a pair of numbers for each cell
 pub pair_same : (v : ℤ) (r c : ℕ) → v ≡ pair_of v v r c
@@ -58,10 +91,6 @@ marks-length marks s x y w h = painted-length s x y w h (always 1) marks
 painted-at : {A : Type 0} (s x y w h : ℕ) (v : ℕ → ℕ → A) (l : List A) (i : ℕ) (d : A) → i < length l → get_or (painted s x y w h v l) i d ≡ cond (inside s x y w h i) (v (i / s - y) (i % s - x)) (get_or l i d)
 unfolding painted
 painted-at s x y w h v l i d lt = each_at_lem _ l i d lt
-
--- by its mark and its numbers
-abbrev pub shown : ℕ → ℤ → ℤ → Option Vector
-shown m a b = when eqb m 0 then None else Some (vector a b)
 
 -- column c of row r, in rows of s cells: number e of its two stands in column 2 · c + e of 2 · s
 module _ (s x y w h r c : ℕ) (lc : c < s) where
@@ -118,9 +147,9 @@ module _ (s x y w h r c : ℕ) (lc : c < s) where
   stored-cell vx vy mv marks twice lt =
       let x₀ = rw add-zero at (number_at 0 (omega arith) vx vy mv (omega arith)) in
       let y₀ = number_at 1 (omega arith) vx vy mv (omega arith) in
-      (λ i. shown (mark-at marks lt i) (x₀ i) (y₀ i)) ∙ go belongs _ _ _
+      (λ i. shown (mark-at marks lt i) (vector (x₀ i) (y₀ i))) ∙ go belongs _ _ _
     where
-      go : (t : Bool) (m : ℕ) (a b : ℤ) → shown (cond t 1 m) (cond t vx a) (cond t vy b) ≡ cond t (Some (vector vx vy)) (shown m a b)
+      go : (t : Bool) (m : ℕ) (a b : ℤ) → shown (cond t 1 m) (vector (cond t vx a) (cond t vy b)) ≡ cond t (Some (vector vx vy)) (shown m (vector a b))
       go true m a b = refl
       go false m a b = refl
 

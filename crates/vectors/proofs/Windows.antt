@@ -5,30 +5,30 @@ use mathlib.Core.Bool.{Bool, true, false, cond, ◌||◌, ◌&&◌, true≢false
 use mathlib.Core.Logic.{◌≢◌, ◌⊎◌, inl, inr, ⊎_elim}
 use mathlib.Core.List.{List}
 use Prim.Native.Nat.{ℕ, zero, suc, ◌+◌, ◌-◌, ◌*◌, ◌/◌, ◌%◌, ◌≤◌, ◌<◌}
-use native.Mathlib.Nat.{suc-mul, add_assoc, add_comm, add-zero, div-add-mod', add-mod_right}
+use native.Mathlib.Nat.{suc-mul, add_assoc, add_comm, div-add-mod', add-mod_right}
 use lib.Arith.{digits_mod}
 use native.Mathlib.Numerals.{sub-one, one-add}
 use native.Mathlib.Omega.{arith}
 use borrow.Author.Tests.{ne_eqb, eqb-true, eqb-false, ltb-true, ltb-false, lt-ltb, le-ltb}
 use lib.Dec.{eqb, ltb}
 use lib.IntN.{ℤ, pos}
-use lib.ListN.{length, get_or, set, length-set}
+use lib.ListN.{set, length-set}
 use lib.Seq.{get_or-set_same, get_or-set_other}
 use Rattle.ints.specs.Z.{when◌then◌else◌}
 use Rattle.ints.proofs.Fits.{if_yes, if_no}
 use Rattle.picture.specs.Painted.{within}
 use Rattle.picture.specs.InnerPicture.{Within}
-use Rattle.picture.specs.InnerRows.{row}
-use Rattle.picture.proofs.Laws.{row-length, row_same, row_other, within-true, within_in}
+use Rattle.picture.proofs.Laws.{within-true, within_in}
 use Rattle.picture.specs.Field.{Field}
 use Rattle.picture.specs.InnerField.{lent_field}
 use Rattle.vectors.specs.Predict.{vector, cell_at, near_at, left_of, above_of, above_left_of, or_else, combined, predicted}
 use Rattle.vectors.specs.Stored.{stored_field}
 use Rattle.vectors.proofs.Tests.{neither, same_test}
-use Rattle.vectors.proofs.Storing.{shown, FieldSized, near-stored}
-use Rattle.vectors.specs.InnerWindow.{Window, End, Sight, Seen, Part, pair_set, corner_pairs, corner_marks, first, last, on_left, on_right, above, corner}
-use Rattle.std.specs.Prelude.{Option, Some, None}
+use Rattle.vectors.proofs.Storing.{FieldSized, near-stored}
+use Rattle.vectors.specs.InnerWindow.{End, Sight, Seen, Part, shown, shown_at, corners, first, last, on_left, on_right, above, corner}
+use Rattle.std.specs.Prelude.{Some, None}
 use Rattle.vectors.specs.declared.svq3_frame.Vector.{Vector}
+use Rattle.vectors.specs.declared.window.Neighbours.{Neighbours}
 
 -- ---- off the picture, as the code tests it
 abbrev pub off : ℕ → ℕ → ℕ → Bool
@@ -76,79 +76,28 @@ module _ (cols rows : ℕ) (mv : List ℤ) (marks : List ℕ) where
       let i : (y - 1) * (4 * cols) + (4 * column - 1) + c ≡ (y - 1) * (4 * cols) + (4 * column + c - 1) = omega arith in
       ap (cell_at mv marks) i ∙ sym (on-shows (4 * column + c) y (omega arith) b (omega arith) h)
 
--- ---- six cells copied
-module _ (near : List ℤ) (marked : List ℕ) (mv : List ℤ) (marks : List ℕ) (from at : ℕ) where
-  abbrev number : ℕ → ℤ
-  number k = get_or mv (2 * from + k) (pos 0)
+-- ---- cell k written
+abbrev zero-vector : Vector
+zero-vector = vector (pos 0) (pos 0)
 
-  abbrev mark : ℕ → ℕ
-  mark k = get_or marks (from + k) 0
+module _ (n n' : Neighbours) (k m : ℕ) (v : Vector) (e : n'.vectors ≡ set n.vectors k v) (f : n'.marks ≡ set n.marks k m) where
+  pub set_shows : k < 30 → shown_at n' k ≡ shown m v
+  unfolding shown_at
+  set_shows h = rw (f, e, get_or-set_same n.marks k m 0 (omega (arith, n.marks_len)), get_or-set_same n.vectors k v zero-vector (omega (arith, n.vectors_len)))
 
-  abbrev numbers : List ℤ
-  numbers = row near (2 * at) number 12
+  pub set-other : (j : ℕ) → j ≢ k → shown_at n' j ≡ shown_at n j
+  unfolding shown_at
+  set-other j o = rw (f, e, get_or-set_other n.marks k j m 0 o, get_or-set_other n.vectors k j v zero-vector o)
 
-  abbrev cells : List ℕ
-  cells = row marked at mark 6
+-- and its mark alone
+module _ (n n' : Neighbours) (k : ℕ) (e : n'.vectors ≡ n.vectors) (f : n'.marks ≡ set n.marks k 0) where
+  pub none_shown : k < 30 → shown_at n' k ≡ None
+  unfolding shown_at when◌then◌else◌
+  none_shown h = rw (f, get_or-set_same n.marks k 0 0 (omega (arith, n.marks_len)))
 
-  copied-number : (c e : ℕ) → c < 6 → e < 2 → 2 * at + 12 ≤ length near → get_or numbers (2 * (at + c) + e) (pos 0) ≡ get_or mv (2 * (from + c) + e) (pos 0)
-  copied-number c e lc le h =
-      let i : 2 * (at + c) + e ≡ 2 * at + (2 * c + e) = omega arith in
-      let j : 2 * from + (2 * c + e) ≡ 2 * (from + c) + e = omega arith in
-      ap (λ n. get_or numbers n (pos 0)) i ∙ row_same near (2 * at) number 12 (2 * c + e) (pos 0) (omega arith) h ∙ ap (λ n. get_or mv n (pos 0)) j
-
-  copied-shows : (c : ℕ) → c < 6 → at + 6 ≤ length marked → 2 * at + 12 ≤ length near → cell_at numbers cells (at + c) ≡ cell_at mv marks (from + c)
-  unfolding cell_at
-  copied-shows c lc h l =
-      let m = row_same marked at mark 6 c 0 lc h in
-      let x = simp add-zero at (copied-number c 0 lc (omega arith) l) in
-      let y = copied-number c 1 lc (omega arith) l in
-      λ i. shown (m i) (x i) (y i)
-
-  copied-before : (j : ℕ) → j < at → cell_at numbers cells j ≡ cell_at near marked j
-  unfolding cell_at
-  copied-before j lt =
-      let m = row_other marked at mark 6 j 0 (λ k h. omega arith) in
-      let x = row_other near (2 * at) number 12 (2 * j) (pos 0) (λ k h. omega arith) in
-      let y = row_other near (2 * at) number 12 (2 * j + 1) (pos 0) (λ k h. omega arith) in
-      λ i. shown (m i) (x i) (y i)
-
-  -- THE WINDOW afterwards
-  pub copied-row : {near' : List ℤ} {marked' : List ℕ} → near' ≡ numbers → marked' ≡ cells → Window near marked → at + 6 ≤ 30
-      → Window near' marked'
-      × ((c : ℕ) → c < 6 → cell_at near' marked' (at + c) ≡ cell_at mv marks (from + c))
-      × ((j : ℕ) → j < at → cell_at near' marked' j ≡ cell_at near marked j)
-  copied-row e f w h = (
-    record { numbers = ap length e ∙ row-length near (2 * at) number 12 ∙ w.numbers; cells = ap length f ∙ row-length marked at mark 6 ∙ w.cells },
-    (λ c lc. ap₂ (λ a b. cell_at a b (at + c)) e f ∙ copied-shows c lc (omega arith) (omega arith)),
-    (λ j lt. ap₂ (λ a b. cell_at a b j) e f ∙ copied-before j lt),
-  )
-
--- ---- cell k written: its mark alone, or all of it
-module _ (mv : List ℤ) (marks : List ℕ) (k : ℕ) where
-  pub no-vector : k < length marks → cell_at mv (set marks k 0) k ≡ None
-  unfolding cell_at when◌then◌else◌
-  no-vector h = rw (get_or-set_same marks k 0 0 h)
-
-  pub no-vector-other : (j : ℕ) → j ≢ k → cell_at mv (set marks k 0) j ≡ cell_at mv marks j
-  unfolding cell_at
-  no-vector-other j o = rw (get_or-set_other marks k j 0 0 o)
-
-  module _ (m : ℕ) (a b : ℤ) where
-    abbrev pair : List ℤ
-    pair = set (set mv (2 * k) a) (2 * k + 1) b
-
-    pub loaded : k < length marks → 2 * k + 1 < length mv → cell_at pair (set marks k m) k ≡ shown m a b
-    unfolding cell_at
-    loaded h l =
-        let x = get_or-set_other (set mv (2 * k) a) (2 * k + 1) (2 * k) b (pos 0) (omega arith) ∙ get_or-set_same mv (2 * k) a (pos 0) (omega arith) in
-        let y = get_or-set_same (set mv (2 * k) a) (2 * k + 1) b (pos 0) (simp length-set l) in
-        λ i. shown (get_or-set_same marks k m 0 h i) (x i) (y i)
-
-    pub loaded-other : (j : ℕ) → j ≢ k → cell_at pair (set marks k m) j ≡ cell_at mv marks j
-    unfolding cell_at
-    loaded-other j o =
-        let other : (n : ℕ) → n ≢ 2 * k → n ≢ 2 * k + 1 → get_or pair n (pos 0) ≡ get_or mv n (pos 0) = λ n p q. get_or-set_other (set mv (2 * k) a) (2 * k + 1) n b (pos 0) q ∙ get_or-set_other mv (2 * k) n a (pos 0) p in
-        λ i. shown (get_or-set_other marks k j m 0 o i) (other (2 * j) (λ e. o (omega arith)) (λ e. omega arith) i) (other (2 * j + 1) (λ e. omega arith) (λ e. o (omega arith)) i)
+  pub none-other : (j : ℕ) → j ≢ k → shown_at n' j ≡ shown_at n j
+  unfolding shown_at
+  none-other j o = rw (f, e, get_or-set_other n.marks k j 0 0 o)
 
 -- ---- the neighbours of a partition whose first cell is (cx, cy) of its macroblock: D is cell cy · 6 + cx of the window, A a row below it, B and C to its right
 left_is : (f : Field) (x y : ℕ) → above_left_of f x (suc y) ≡ left_of f x y
@@ -179,7 +128,7 @@ before-end n k z h e =
 next-end : (n k : ℕ) → k % n ≡ 0 → End n (k + n)
 next-end n k e = first (add-mod_right k n ∙ e)
 
-module _ {f : Field} {column row cx cy wide high : ℕ} {mv : List ℤ} {marks : List ℕ} (p : Part cx cy wide high) (s : Seen wide high f column row mv marks) where
+module _ {f : Field} {column row cx cy wide high : ℕ} {n : Neighbours} (p : Part cx cy wide high) (s : Seen wide high f column row n) where
   -- each neighbour is in sight
   left-sight : Sight wide high cx (cy + 1)
   left-sight = go cx refl
@@ -208,26 +157,26 @@ module _ {f : Field} {column row cx cy wide high : ℕ} {mv : List ℤ} {marks :
       go zero e = on_left refl
       go (suc x) e = above-sight (suc x) (before-end wide (suc x) p.wide_some (omega arith) (rw e at p.left))
 
-  seen-above : (c : ℕ) → c < 5 → Sight wide high (c + 1) cy → cell_at mv marks (cy * 6 + c + 1) ≡ above_of f (4 * column + c) (4 * row + cy)
+  seen-above : (c : ℕ) → c < 5 → Sight wide high (c + 1) cy → shown_at n (cy * 6 + c + 1) ≡ above_of f (4 * column + c) (4 * row + cy)
   seen-above c lc t =
       let i : cy * 6 + c + 1 ≡ cy * 6 + (c + 1) = omega arith in
       let x : 4 * column + (c + 1) ≡ suc (4 * column + c) = omega arith in
-      ap (cell_at mv marks) i ∙ s.shows (c + 1) cy (omega arith) (omega (arith, p.down)) t ∙ ap (λ n. above_left_of f n (4 * row + cy)) x ∙ above-is f (4 * column + c) (4 * row + cy)
+      ap (shown_at n) i ∙ s.shows (c + 1) cy (omega arith) (omega (arith, p.down)) t ∙ ap (λ k. above_left_of f k (4 * row + cy)) x ∙ above-is f (4 * column + c) (4 * row + cy)
 
   -- THE PREDICTION from the window is that of the field
-  pub seen-predicted : combined (cell_at mv marks (cy * 6 + cx + 6)) (cell_at mv marks (cy * 6 + cx + 1)) (or_else (cell_at mv marks (cy * 6 + cx + 1 + wide)) (cell_at mv marks (cy * 6 + cx)))
+  pub seen-predicted : combined (shown_at n (cy * 6 + cx + 6)) (shown_at n (cy * 6 + cx + 1)) (or_else (shown_at n (cy * 6 + cx + 1 + wide)) (shown_at n (cy * 6 + cx)))
       ≡ predicted f (4 * column + cx) (4 * row + cy) wide
   unfolding predicted
   seen-predicted =
       let j : cy * 6 + cx + 6 ≡ (cy + 1) * 6 + cx = omega arith in
       let y : 4 * row + (cy + 1) ≡ suc (4 * row + cy) = omega arith in
-      let a = ap (cell_at mv marks) j ∙ s.shows cx (cy + 1) (omega (arith, p.across)) (omega (arith, p.down, p.high_some)) left-sight ∙ ap (above_left_of f (4 * column + cx)) y ∙ left_is f (4 * column + cx) (4 * row + cy) in
+      let a = ap (shown_at n) j ∙ s.shows cx (cy + 1) (omega (arith, p.across)) (omega (arith, p.down, p.high_some)) left-sight ∙ ap (above_left_of f (4 * column + cx)) y ∙ left_is f (4 * column + cx) (4 * row + cy) in
       let b = seen-above cx (omega (arith, p.across)) first-sight in
       let i : cy * 6 + cx + 1 + wide ≡ cy * 6 + (cx + wide) + 1 = omega arith in
       let x : 4 * column + (cx + wide) ≡ 4 * column + cx + wide = omega arith in
-      let c = ap (cell_at mv marks) i ∙ seen-above (cx + wide) (omega (arith, p.across)) third-sight ∙ ap (λ n. above_of f n (4 * row + cy)) x in
+      let c = ap (shown_at n) i ∙ seen-above (cx + wide) (omega (arith, p.across)) third-sight ∙ ap (λ k. above_of f k (4 * row + cy)) x in
       let d = s.shows cx cy (omega (arith, p.across)) (omega (arith, p.down)) fourth-sight in
-      λ n. combined (a n) (b n) (or_else (c n) (d n))
+      λ i. combined (a i) (b i) (or_else (c i) (d i))
 
 -- ---- storing in the window is storing in the field
 within-shift : (k a n i : ℕ) → within (k + a) n (k + i) ≡ within a n i
@@ -256,98 +205,61 @@ module _ (f : Field) (x y w h : ℕ) (vx vy : ℤ) (s : FieldSized f) (lx : x + 
   corner-stored zero (suc r) = rw (within_none x w)
   corner-stored (suc c) (suc r) = rw (within_more x w c, within_more y h r) (near-stored f x y w h vx vy s lx ly c r)
 
--- ---- cells made a vector, marked 1
-module _ (vx vy : ℤ) where
-  made : (mv : List ℤ) (marks : List ℕ) (k : ℕ) → k < length marks → 2 * k + 1 < length mv → cell_at (pair_set mv k vx vy) (set marks k 1) k ≡ Some (vector vx vy)
+-- ---- the corners of a partition made a vector, marked 1, one after another
+abbrev made : Neighbours → ℕ → Vector → Neighbours
+made n k v = record {
+  vectors = set n.vectors k v;
+  marks = set n.marks k 1;
+  vectors_len = length-set n.vectors k v ∙ n.vectors_len;
+  marks_len = length-set n.marks k 1 ∙ n.marks_len;
+}
+
+module _ (v : Vector) (n n' : Neighbours) (k : ℕ) (h : k < 30) (e : n'.vectors ≡ set n.vectors k v) (f : n'.marks ≡ set n.marks k 1) where
+  made-here : shown_at n' k ≡ Some v
   unfolding when◌then◌else◌
-  made mv marks k h l = loaded mv marks k 1 vx vy h l
+  made-here = set_shows n n' k 1 v e f h
 
-  -- a cell that has it keeps it
-  kept : (mv : List ℤ) (marks : List ℕ) (k i : ℕ) → k < length marks → 2 * k + 1 < length mv → cell_at mv marks i ≡ Some (vector vx vy) → cell_at (pair_set mv k vx vy) (set marks k 1) i ≡ Some (vector vx vy)
-  kept mv marks k i h l e = go (eqb i k) refl
-    where
-      go : (t : Bool) → eqb i k ≡ t → cell_at (pair_set mv k vx vy) (set marks k 1) i ≡ Some (vector vx vy)
-      go true q = rw (eqb-true i k q) (made mv marks k h l)
-      go false q = loaded-other mv marks k 1 vx vy i (eqb-false i k q) ∙ e
+  -- a cell that shows it goes on showing it
+  kept : (i : ℕ) → shown_at n i ≡ Some v → shown_at n' i ≡ Some v
+  kept i s = ⊎_elim
+      (λ (q : i ≡ k). rw q made-here)
+      (λ (o : i ≢ k). set-other n n' k 1 v e f i o ∙ s)
+      (elim (eqb i k) as (λ t. eqb i k ≡ t → (i ≡ k) ⊎ (i ≢ k)) [ true ↦ λ t. inl (eqb-true i k t) | false ↦ λ t. inr (eqb-false i k t) ] refl)
 
--- four of them
-module _ (mv : List ℤ) (marks : List ℕ) (k across down : ℕ) (vx vy : ℤ) (w : Window mv marks) (fits : k + across + down < 30) where
-  abbrev mv₁ : List ℤ
-  mv₁ = pair_set mv k vx vy
+module _ (n n' : Neighbours) (v : Vector) (k across down : ℕ) (e : n'.vectors ≡ corners n.vectors k across down v) (f : n'.marks ≡ corners n.marks k across down 1) (h : k + across + down < 30) where
+  abbrev n₁ : Neighbours
+  n₁ = made n k v
 
-  abbrev mv₂ : List ℤ
-  mv₂ = pair_set mv₁ (k + across) vx vy
+  abbrev n₂ : Neighbours
+  n₂ = made n₁ (k + across) v
 
-  abbrev mv₃ : List ℤ
-  mv₃ = pair_set mv₂ (k + down) vx vy
+  abbrev n₃ : Neighbours
+  n₃ = made n₂ (k + down) v
 
-  abbrev marks₁ : List ℕ
-  marks₁ = set marks k 1
-
-  abbrev marks₂ : List ℕ
-  marks₂ = set marks₁ (k + across) 1
-
-  abbrev marks₃ : List ℕ
-  marks₃ = set marks₂ (k + down) 1
-
-  numbers₁ : length mv₁ ≡ 60
-  numbers₁ = simp length-set w.numbers
-
-  numbers₂ : length mv₂ ≡ 60
-  numbers₂ = simp length-set w.numbers
-
-  numbers₃ : length mv₃ ≡ 60
-  numbers₃ = simp length-set w.numbers
-
-  cells₁ : length marks₁ ≡ 30
-  cells₁ = simp length-set w.cells
-
-  cells₂ : length marks₂ ≡ 30
-  cells₂ = simp length-set w.cells
-
-  cells₃ : length marks₃ ≡ 30
-  cells₃ = simp length-set w.cells
-
-  corners-window : Window (corner_pairs mv k across down vx vy) (corner_marks marks k across down)
-  corners-window = record { numbers = simp length-set w.numbers; cells = simp length-set w.cells }
-
-  abbrev corner-cell : ℕ → Option Vector
-  corner-cell i = cell_at (corner_pairs mv k across down vx vy) (corner_marks marks k across down) i
-
-  corners-other : (i : ℕ) → i ≢ k → i ≢ k + across → i ≢ k + down → i ≢ k + across + down → corner-cell i ≡ cell_at mv marks i
+  corners-other : (i : ℕ) → i ≢ k → i ≢ k + across → i ≢ k + down → i ≢ k + across + down → shown_at n' i ≡ shown_at n i
   corners-other i a b c d =
-      loaded-other mv₃ marks₃ (k + across + down) 1 vx vy i d ∙ loaded-other mv₂ marks₂ (k + down) 1 vx vy i c ∙ loaded-other mv₁ marks₁ (k + across) 1 vx vy i b ∙ loaded-other mv marks k 1 vx vy i a
+      set-other n₃ n' (k + across + down) 1 v e f i d
+      ∙ set-other n₂ n₃ (k + down) 1 v refl refl i c
+      ∙ set-other n₁ n₂ (k + across) 1 v refl refl i b
+      ∙ set-other n n₁ k 1 v refl refl i a
 
-  corners-here : (i : ℕ) → (i ≡ k) ⊎ ((i ≡ k + across) ⊎ ((i ≡ k + down) ⊎ (i ≡ k + across + down))) → corner-cell i ≡ Some (vector vx vy)
-  corners-here i h = ⊎_elim (λ e. rw e (three k (two k (one k first_made)))) (⊎_elim (λ e. rw e (three (k + across) (two (k + across) second-made))) (⊎_elim (λ e. rw e (three (k + down) third-made)) (λ e. rw e fourth-made))) h
+  corners-here : (i : ℕ) → (i ≡ k) ⊎ ((i ≡ k + across) ⊎ ((i ≡ k + down) ⊎ (i ≡ k + across + down))) → shown_at n' i ≡ Some v
+  corners-here i q = go q
     where
-      one : (j : ℕ) → cell_at mv₁ marks₁ j ≡ Some (vector vx vy) → cell_at mv₂ marks₂ j ≡ Some (vector vx vy)
-      one j = kept vx vy mv₁ marks₁ (k + across) j (omega (arith, cells₁)) (omega (arith, numbers₁))
+      second : (i : ℕ) → shown_at n₁ i ≡ Some v → shown_at n₂ i ≡ Some v
+      second = kept v n₁ n₂ (k + across) (omega arith) refl refl
 
-      two : (j : ℕ) → cell_at mv₂ marks₂ j ≡ Some (vector vx vy) → cell_at mv₃ marks₃ j ≡ Some (vector vx vy)
-      two j = kept vx vy mv₂ marks₂ (k + down) j (omega (arith, cells₂)) (omega (arith, numbers₂))
+      third : (i : ℕ) → shown_at n₂ i ≡ Some v → shown_at n₃ i ≡ Some v
+      third = kept v n₂ n₃ (k + down) (omega arith) refl refl
 
-      three : (j : ℕ) → cell_at mv₃ marks₃ j ≡ Some (vector vx vy) → corner-cell j ≡ Some (vector vx vy)
-      three j = kept vx vy mv₃ marks₃ (k + across + down) j (omega (arith, cells₃)) (omega (arith, numbers₃))
+      fourth : (i : ℕ) → shown_at n₃ i ≡ Some v → shown_at n' i ≡ Some v
+      fourth = kept v n₃ n' (k + across + down) h e f
 
-      first_made : cell_at mv₁ marks₁ k ≡ Some (vector vx vy)
-      first_made = made vx vy mv marks k (omega (arith, w.cells)) (omega (arith, w.numbers))
-
-      second-made : cell_at mv₂ marks₂ (k + across) ≡ Some (vector vx vy)
-      second-made = made vx vy mv₁ marks₁ (k + across) (omega (arith, cells₁)) (omega (arith, numbers₁))
-
-      third-made : cell_at mv₃ marks₃ (k + down) ≡ Some (vector vx vy)
-      third-made = made vx vy mv₂ marks₂ (k + down) (omega (arith, cells₂)) (omega (arith, numbers₂))
-
-      fourth-made : corner-cell (k + across + down) ≡ Some (vector vx vy)
-      fourth-made = made vx vy mv₃ marks₃ (k + across + down) (omega (arith, cells₃)) (omega (arith, numbers₃))
-
--- stored one after another
-pub corner-pairs-are : {a b c d : List ℤ} {x y vx vy : ℤ} (mv : List ℤ) (k across down : ℕ) → x ≡ vx → y ≡ vy → a ≡ pair_set mv k x y → b ≡ pair_set a (k + across) x y → c ≡ pair_set b (k + down) x y → d ≡ pair_set c (k + across + down) x y → d ≡ corner_pairs mv k across down vx vy
-corner-pairs-are mv k across down ex ey e f g h = rw (h, g, f, e, ex, ey)
-
-pub corner-marks-are : {a b c d : List ℕ} (marks : List ℕ) (k across down : ℕ) → a ≡ set marks k 1 → b ≡ set a (k + across) 1 → c ≡ set b (k + down) 1 → d ≡ set c (k + across + down) 1 → d ≡ corner_marks marks k across down
-corner-marks-are marks k across down e f g h = rw (h, g, f, e)
+      go : (i ≡ k) ⊎ ((i ≡ k + across) ⊎ ((i ≡ k + down) ⊎ (i ≡ k + across + down))) → shown_at n' i ≡ Some v
+      go (inl q) = fourth i (third i (second i (rw q (made-here v n n₁ k (omega arith) refl refl))))
+      go (inr (inl q)) = fourth i (third i (rw q (made-here v n₁ n₂ (k + across) (omega arith) refl refl)))
+      go (inr (inr (inl q))) = fourth i (rw q (made-here v n₂ n₃ (k + down) (omega arith) refl refl))
+      go (inr (inr (inr q))) = rw q (made-here v n₃ n' (k + across + down) h e f)
 
 -- ---- a cell in sight that lies in a partition is a corner of it
 end_of : (n x k : ℕ) → x % n ≡ 0 → x ≤ k → k < x + n → End n k → (k ≡ x) ⊎ (suc k ≡ x + n)
@@ -398,9 +310,10 @@ module _ {cx cy wide high : ℕ} (p : Part cx cy wide high) (c r : ℕ) (lc : c 
       o (within_in (cx + 1) wide c (omega arith) (omega arith)) (within_in (cy + 1) high r (omega arith) (omega arith))
 
 -- THE WINDOW after a partition was stored in it shows the field after the partition was stored there
-pub seen_stored : {f : Field} {column row cx cy wide high : ℕ} {mv : List ℤ} {marks : List ℕ} (vx vy : ℤ) → FieldSized f → Within f.cols f.rows column row → Part cx cy wide high → Seen wide high f column row mv marks
-    → Seen wide high (stored_field f (4 * column + cx) (4 * row + cy) wide high vx vy) column row (corner_pairs mv ((cy + 1) * 6 + (cx + 1)) (wide - 1) (6 * (high - 1)) vx vy) (corner_marks marks ((cy + 1) * 6 + (cx + 1)) (wide - 1) (6 * (high - 1)))
-seen_stored {f} {column} {row} {cx} {cy} {wide} {high} {mv} {marks} vx vy s g p e = record { window = corners-window mv marks k (wide - 1) (6 * (high - 1)) vx vy e.window fits; shows = λ c r lc lr t. near c r lc lr t (within (cx + 1) wide c) refl (within (cy + 1) high r) refl ∙ sym (far c r) }
+pub seen_stored : {f : Field} {column row cx cy wide high : ℕ} {n n' : Neighbours} (v : Vector) → FieldSized f → Within f.cols f.rows column row → Part cx cy wide high → Seen wide high f column row n
+    → n'.vectors ≡ corners n.vectors ((cy + 1) * 6 + (cx + 1)) (wide - 1) (6 * (high - 1)) v → n'.marks ≡ corners n.marks ((cy + 1) * 6 + (cx + 1)) (wide - 1) (6 * (high - 1)) 1
+    → Seen wide high (stored_field f (4 * column + cx) (4 * row + cy) wide high v.x.0 v.y.0) column row n'
+seen_stored {f} {column} {row} {cx} {cy} {wide} {high} {n} {n'} v s g p e d₁ d₂ = record { shows = λ c r lc lr t. near c r lc lr t (within (cx + 1) wide c) refl (within (cy + 1) high r) refl ∙ sym (far c r) }
   where
     k : ℕ
     k = (cy + 1) * 6 + (cx + 1)
@@ -408,24 +321,24 @@ seen_stored {f} {column} {row} {cx} {cy} {wide} {high} {mv} {marks} vx vy s g p 
     fits : k + (wide - 1) + 6 * (high - 1) < 30
     fits = omega (arith, p.across, p.down, p.wide_some, p.high_some)
 
-    far : (c r : ℕ) → above_left_of (stored_field f (4 * column + cx) (4 * row + cy) wide high vx vy) (4 * column + c) (4 * row + r) ≡ cond (within (cx + 1) wide c && within (cy + 1) high r) (Some (vector vx vy)) (above_left_of f (4 * column + c) (4 * row + r))
+    far : (c r : ℕ) → above_left_of (stored_field f (4 * column + cx) (4 * row + cy) wide high v.x.0 v.y.0) (4 * column + c) (4 * row + r) ≡ cond (within (cx + 1) wide c && within (cy + 1) high r) (Some v) (above_left_of f (4 * column + c) (4 * row + r))
     far c r =
         let bx = ap (λ n. within n wide (4 * column + c)) (add_assoc (4 * column) cx 1) ∙ within-shift (4 * column) (cx + 1) wide c in
         let by' = ap (λ n. within n high (4 * row + r)) (add_assoc (4 * row) cy 1) ∙ within-shift (4 * row) (cy + 1) high r in
-        corner-stored f (4 * column + cx) (4 * row + cy) wide high vx vy s (omega (arith, g.across, p.across)) (omega (arith, g.down, p.down)) (4 * column + c) (4 * row + r)
-        ∙ λ i. cond (bx i && by' i) (Some (vector vx vy)) (above_left_of f (4 * column + c) (4 * row + r))
+        corner-stored f (4 * column + cx) (4 * row + cy) wide high v.x.0 v.y.0 s (omega (arith, g.across, p.across)) (omega (arith, g.down, p.down)) (4 * column + c) (4 * row + r)
+        ∙ λ i. cond (bx i && by' i) (Some v) (above_left_of f (4 * column + c) (4 * row + r))
 
     -- outside the partition
-    same : (c r : ℕ) → c < 6 → r < 5 → Sight wide high c r → (within (cx + 1) wide c ≡ true → within (cy + 1) high r ≡ true → ⊥) → corner-cell mv marks k (wide - 1) (6 * (high - 1)) vx vy e.window fits (r * 6 + c) ≡ above_left_of f (4 * column + c) (4 * row + r)
+    same : (c r : ℕ) → c < 6 → r < 5 → Sight wide high c r → (within (cx + 1) wide c ≡ true → within (cy + 1) high r ≡ true → ⊥) → shown_at n' (r * 6 + c) ≡ above_left_of f (4 * column + c) (4 * row + r)
     same c r lc lr t o =
         let no : (dx dy : ℕ) → dx < wide → dy < high → r * 6 + c ≢ k + dx + 6 * dy = elsewhere p c r lc o in
         let w = p.wide_some in
         let h = p.high_some in
-        corners-other mv marks k (wide - 1) (6 * (high - 1)) vx vy e.window fits (r * 6 + c) (λ q. no 0 0 (omega arith) (omega arith) (omega (arith, q))) (λ q. no (wide - 1) 0 (omega arith) (omega arith) (omega (arith, q))) (λ q. no 0 (high - 1) (omega arith) (omega arith) (omega (arith, q))) (λ q. no (wide - 1) (high - 1) (omega arith) (omega arith) (omega (arith, q)))
+        corners-other n n' v k (wide - 1) (6 * (high - 1)) d₁ d₂ fits (r * 6 + c) (λ q. no 0 0 (omega arith) (omega arith) (omega (arith, q))) (λ q. no (wide - 1) 0 (omega arith) (omega arith) (omega (arith, q))) (λ q. no 0 (high - 1) (omega arith) (omega arith) (omega (arith, q))) (λ q. no (wide - 1) (high - 1) (omega arith) (omega arith) (omega (arith, q)))
         ∙ e.shows c r lc lr t
 
-    near : (c r : ℕ) → c < 6 → r < 5 → Sight wide high c r → (u : Bool) → within (cx + 1) wide c ≡ u → (v : Bool) → within (cy + 1) high r ≡ v
-        → corner-cell mv marks k (wide - 1) (6 * (high - 1)) vx vy e.window fits (r * 6 + c) ≡ cond (within (cx + 1) wide c && within (cy + 1) high r) (Some (vector vx vy)) (above_left_of f (4 * column + c) (4 * row + r))
-    near c r lc lr t true tx true ty = rw (tx, ty) (corners-here mv marks k (wide - 1) (6 * (high - 1)) vx vy e.window fits (r * 6 + c) (spot p c r lc tx ty t))
+    near : (c r : ℕ) → c < 6 → r < 5 → Sight wide high c r → (u : Bool) → within (cx + 1) wide c ≡ u → (b : Bool) → within (cy + 1) high r ≡ b
+        → shown_at n' (r * 6 + c) ≡ cond (within (cx + 1) wide c && within (cy + 1) high r) (Some v) (above_left_of f (4 * column + c) (4 * row + r))
+    near c r lc lr t true tx true ty = rw (tx, ty) (corners-here n n' v k (wide - 1) (6 * (high - 1)) d₁ d₂ fits (r * 6 + c) (spot p c r lc tx ty t))
     near c r lc lr t true tx false ty = rw (tx, ty) (same c r lc lr t (λ a b. true≢false (sym b ∙ ty)))
-    near c r lc lr t false tx v ty = rw tx (same c r lc lr t (λ a b. true≢false (sym a ∙ tx)))
+    near c r lc lr t false tx b ty = rw tx (same c r lc lr t (λ a b. true≢false (sym a ∙ tx)))

@@ -1,15 +1,21 @@
 -- The window of a macroblock: the 6 × 5 cells that its partitions see, its own 4 × 4 with a column on either side and a row above, by rows.
 -- Column c of row r is the picture's cell above and to the left of (4 · column + c, 4 · row + r).
 -- Assumes nothing.
-use Rattle.std.specs.Prelude.{◌≡◌, List, ℕ, suc, ◌+◌, ◌-◌, ◌*◌, ◌%◌, ◌<◌, ◌≤◌, ℤ, length, set}
+use Rattle.std.specs.Prelude.{◌≡◌, List, ℕ, suc, ◌+◌, ◌-◌, ◌*◌, ◌%◌, ◌<◌, ◌≤◌, pos, eqb, length, get_or, set, Option, Some, None}
+use Rattle.ints.specs.Z.{when◌then◌else◌}
 use Rattle.picture.specs.Picture.{cell_count}
 use Rattle.picture.specs.Field.{Field}
-use Rattle.vectors.specs.Predict.{cell_at, above_left_of}
+use Rattle.vectors.specs.Predict.{vector, above_left_of}
+use Rattle.vectors.specs.declared.svq3_frame.Vector.{Vector}
+use Rattle.vectors.specs.declared.window.Neighbours.{Neighbours}
 
--- two numbers and a mark for each cell
-pub record Window (mv : List ℤ) (marks : List ℕ) : Type 0 where
-  pub numbers : length mv ≡ 60
-  pub cells : length marks ≡ 30
+-- by a mark: none where it is 0
+abbrev pub shown : ℕ → Vector → Option Vector
+shown m v = when eqb m 0 then None else Some v
+
+-- what cell k shows
+unfoldable pub shown_at : Neighbours → ℕ → Option Vector
+shown_at n k = shown (get_or n.marks k 0) (get_or n.vectors k (vector (pos 0) (pos 0)))
 
 -- k is the first or the last of a span of n, spans starting at 0
 pub data End (n k : ℕ) : Type 0 where
@@ -24,20 +30,12 @@ pub data Sight (wide high c r : ℕ) : Type 0 where
   corner : End wide (c - 1) → End high (r - 1) → Sight wide high c r
 
 -- each such cell shows what the field has there
-pub record Seen (wide high : ℕ) (f : Field) (column row : ℕ) (mv : List ℤ) (marks : List ℕ) : Type 0 where
-  pub window : Window mv marks
-  pub shows : (c r : ℕ) → c < 6 → r < 5 → Sight wide high c r → cell_at mv marks (r * 6 + c) ≡ above_left_of f (4 * column + c) (4 * row + r)
+pub record Seen (wide high : ℕ) (f : Field) (column row : ℕ) (n : Neighbours) : Type 0 where
+  pub shows : (c r : ℕ) → c < 6 → r < 5 → Sight wide high c r → shown_at n (r * 6 + c) ≡ above_left_of f (4 * column + c) (4 * row + r)
 
--- the numbers of cell k made a vector
-abbrev pub pair_set : List ℤ → ℕ → ℤ → ℤ → List ℤ
-pair_set mv k vx vy = set (set mv (2 * k) vx) (2 * k + 1) vy
-
--- the corners of a partition made a vector, marked 1: its first cell is k, the others lie `across` and `down` cells on
-abbrev pub corner_pairs : List ℤ → ℕ → ℕ → ℕ → ℤ → ℤ → List ℤ
-corner_pairs mv k across down vx vy = pair_set (pair_set (pair_set (pair_set mv k vx vy) (k + across) vx vy) (k + down) vx vy) (k + across + down) vx vy
-
-abbrev pub corner_marks : List ℕ → ℕ → ℕ → ℕ → List ℕ
-corner_marks marks k across down = set (set (set (set marks k 1) (k + across) 1) (k + down) 1) (k + across + down) 1
+-- a at the corners of a partition: its first cell is k, the others lie `across` and `down` cells on
+abbrev pub corners : {A : Type 0} → List A → ℕ → ℕ → ℕ → A → List A
+corners l k across down a = set (set (set (set l k a) (k + across) a) (k + down) a) (k + across + down) a
 
 -- a field whose lists have the lengths of its grid
 pub record FieldSized (f : Field) : Type 0 where
@@ -45,11 +43,11 @@ pub record FieldSized (f : Field) : Type 0 where
   pub cells : length f.marks ≡ cell_count f.cols f.rows
 
 -- the window follows the field f of a cols × rows grid: what holds before a partition of wide × high cells and after it
-pub record Follows (wide high : ℕ) (f : Field) (cols rows column row : ℕ) (near : List ℤ) (marked : List ℕ) : Type 0 where
+pub record Follows (wide high : ℕ) (f : Field) (cols rows column row : ℕ) (n : Neighbours) : Type 0 where
   pub same_cols : f.cols ≡ cols
   pub same_rows : f.rows ≡ rows
   pub sized : FieldSized f
-  pub seen : Seen wide high f column row near marked
+  pub seen : Seen wide high f column row n
 
 -- a partition of wide × high cells, the first of them (cx, cy), lies in its macroblock, among others of its size
 pub record Part (cx cy wide high : ℕ) : Type 0 where

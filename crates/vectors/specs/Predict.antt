@@ -11,12 +11,16 @@ use Rattle.picture.specs.Field.{Field}
 abbrev pub vector : ℤ → ℤ → Vector
 vector x y = record { x = record { 0 = x }; y = record { 0 = y } }
 
+-- vector i of the numbers
+abbrev pub vector_in : List ℤ → ℕ → Vector
+vector_in mv i = vector (get_or mv (2 * i) (pos 0)) (get_or mv (2 * i + 1) (pos 0))
+
 -- the vector of cell i: missing where it is marked 0
 unfoldable pub cell_at : List ℤ → List ℕ → ℕ → Option Vector
 cell_at mv marks i =
     when eqb (get_or marks i 0) 0
     then None
-    else Some (vector (get_or mv (2 * i) (pos 0)) (get_or mv (2 * i + 1) (pos 0)))
+    else Some (vector_in mv i)
 
 -- the vector in column x of row y: missing off the picture or marked 0
 unfoldable pub near_at : Field → ℕ → ℕ → Option Vector

@@ -1,259 +1,177 @@
 // The cells that the partitions of a macroblock see, copied: so reading a macroblock changes no lent vector or mark.
-// The window has 6 × 5 cells by rows: the macroblock's 4 × 4, a column on either side and a row above.
-ghost use Rattle.std.specs.Prelude.{◌≡◌, true, ℕ, ◌+◌, ◌-◌, ◌*◌, ◌≤◌, ◌<◌, eqb, pos, length, get_or, set};
+ghost use Rattle.std.specs.Prelude.{◌≡◌, true, ℕ, ◌+◌, ◌-◌, ◌*◌, ◌≤◌, ◌<◌, eqb, length, get_or, set, replicate};
 ghost use Rattle.ints.specs.Z.{when◌then◌else◌};
 ghost use Rattle.picture.specs.Painted.{Inside};
 ghost use Rattle.picture.specs.InnerPicture.{Within};
-ghost use Rattle.picture.specs.InnerRows.{row};
 ghost use Rattle.picture.specs.Field.{Field};
 ghost use Rattle.picture.specs.InnerField.{lent_field};
-ghost use Rattle.vectors.specs.Predict.{vector, cell_at, above_left_of, combined, predictor};
-ghost use Rattle.vectors.specs.InnerWindow.{Window, Seen, Part, pair_set, corner_pairs, corner_marks};
+ghost use Rattle.vectors.specs.Predict.{above_left_of, combined, predictor};
 
-use crate::svq3_frame::{Sixths, Vector, combined, held_in, median_of};
+use crate::svq3_frame::{Vector, combined, held_in, median_of};
+use crate::svq3_mb::Partition;
 use picture::Grid;
 
-// The cell above and to the left of (x, y), as cell k of the window; marked 0 off the picture.
-fn load_cell(
-    near: &mut [i32; 60],
-    marked: &mut [u8; 30],
-    mv: &[i32],
-    marks: &[u8],
-    cols: usize,
-    x: usize,
-    y: usize,
-    k: usize,
-)
-    requires window { Window near.old marked.old × (k < 30) }
-    requires cols_bound { (cols ≤ 4096) × (length mv.now ≡ 2 * length marks.now) × (y * (4 * cols) ≤ length marks.now) }
-    ensures window_2 { Window near.new marked.new }
-    ensures by_index { (rows : ℕ) → y ≤ 4 * rows → cell_at near.new marked.new k ≡ above_left_of (lent_field cols rows mv.now marks.now) x y }
-    ensures by_index_2 { (j : ℕ) → (j ≡ k → ⊥) → cell_at near.new marked.new j ≡ cell_at near.old marked.old j }
-{
-    let stride = 4 * cols;
-    if (x == 0) | (y == 0) | (stride < x) {
-        marked[k] = 0;
-        return;
-    }
-    let i = (y - 1) * stride + (x - 1);
-    marked[k] = marks[i];
-    near[2 * k] = mv[2 * i];
-    near[2 * k + 1] = mv[2 * i + 1];
+// 6 × 5 cells by rows: the macroblock's 4 × 4, a column on either side and a row above.
+// Two arrays: as one of Option<Vector>, loading, prediction and storing took a quarter more instructions.
+#[derive(Clone, Copy)]
+pub struct Neighbours {
+    vectors: [Vector; 30],
+    marks: [u8; 30],
+    pub ghost vectors_len: { length vectors ≡ 30 },
+    pub ghost marks_len: { length marks ≡ 30 },
 }
 
-// The row above y, from the column left of the macroblock on, as the six cells from `at` on: cell by cell.
-fn load_cells(
-    near: &mut [i32; 60],
-    marked: &mut [u8; 30],
-    mv: &[i32],
-    marks: &[u8],
-    cols: usize,
-    column: usize,
-    y: usize,
-    at: usize,
-)
-    requires window { Window near.old marked.old × (at + 6 ≤ 30) }
-    requires cols_bound { (cols ≤ 4096) × (column < cols) × (length mv.now ≡ 2 * length marks.now) × (y * (4 * cols) ≤ length marks.now) }
-    ensures window_2 { Window near.new marked.new }
-    ensures by_index { (rows : ℕ) → y ≤ 4 * rows → (c : ℕ) → c < 6 → cell_at near.new marked.new (at + c) ≡ above_left_of (lent_field cols rows mv.now marks.now) (4 * column + c) y }
-    ensures by_index_2 { (j : ℕ) → j < at → cell_at near.new marked.new j ≡ cell_at near.old marked.old j }
-{
-    let mut c = 0;
-    while c < 6 {
-        load_cell(near, marked, mv, marks, cols, 4 * column + c, y, at + c);
-        c += 1;
-    }
-}
+impl Neighbours {
+    ghost use Rattle.vectors.specs.InnerWindow.{Seen, shown_at, corners};
 
-// Six marks from cell `from` on, as those of the six cells from `at` on.
-fn copy_marks(marked: &mut [u8; 30], marks: &[u8], from: usize, at: usize)
-    requires { (at + 6 ≤ 30) × (from + 6 ≤ length marks.now) }
-    ensures { marked.new ≡ row marked.old at (λ c. get_or marks.now (from + c) 0) 6 }
-{
-    let mut c = 0;
-    while c < 6 {
-        marked[at + c] = marks[from + c];
-        c += 1;
+    // All marked 0.
+    pub fn new() -> Self
+        ensures { result.marks ≡ replicate 30 0 }
+    {
+        Neighbours {
+            vectors: [Vector::default(); 30],
+            marks: [0; 30],
+        }
     }
-}
 
-// Twelve numbers from `from` on, to `at` and on.
-fn copy_vectors(near: &mut [i32; 60], mv: &[i32], from: usize, at: usize)
-    requires { (at + 12 ≤ 60) × (from + 12 ≤ length mv.now) }
-    ensures { near.new ≡ row near.old at (λ c. get_or mv.now (from + c) (pos 0)) 12 }
-{
-    let mut c = 0;
-    while c < 12 {
-        near[at + c] = mv[from + c];
-        c += 1;
+    fn set_cell(&mut self, k: usize, mark: u8, v: Vector)
+        requires { k < 30 }
+        ensures vectors_after { self.new.vectors ≡ set self.old.vectors k v }
+        ensures marks_after { self.new.marks ≡ set self.old.marks k mark }
+    {
+        self.marks[k] = mark;
+        self.vectors[k] = v;
     }
-}
 
-// The row above y, from the column left of the macroblock on, as the six cells from `at` on; `whole` says that all six lie on the picture.
-fn load_row(
-    near: &mut [i32; 60],
-    marked: &mut [u8; 30],
-    mv: &[i32],
-    marks: &[u8],
-    cols: usize,
-    column: usize,
-    y: usize,
-    at: usize,
-    whole: bool,
-)
-    requires window { Window near.old marked.old × (at + 6 ≤ 30) }
-    requires cols_bound { (cols ≤ 4096) × (column < cols) × (length mv.now ≡ 2 * length marks.now) × (y * (4 * cols) ≤ length marks.now) }
-    requires column_nonzero { whole ≡ true → (0 < column) × (0 < y) × (column + 1 < cols) }
-    ensures window_2 { Window near.new marked.new }
-    ensures by_index { (rows : ℕ) → y ≤ 4 * rows → (c : ℕ) → c < 6 → cell_at near.new marked.new (at + c) ≡ above_left_of (lent_field cols rows mv.now marks.now) (4 * column + c) y }
-    ensures by_index_2 { (j : ℕ) → j < at → cell_at near.new marked.new j ≡ cell_at near.old marked.old j }
-{
-    if whole {
+    // The cell above and to the left of (x, y), as cell k; marked 0 off the picture.
+    fn load_cell(&mut self, mv: &[i32], marks: &[u8], cols: usize, x: usize, y: usize, k: usize)
+        requires { (k < 30) × (cols ≤ 4096) × (length mv.now ≡ 2 * length marks.now) × (y * (4 * cols) ≤ length marks.now) }
+        ensures loaded { (rows : ℕ) → y ≤ 4 * rows → shown_at self.new k ≡ above_left_of (lent_field cols rows mv.now marks.now) x y }
+        ensures others { (j : ℕ) → (j ≡ k → ⊥) → shown_at self.new j ≡ shown_at self.old j }
+    {
+        let stride = 4 * cols;
+        if (x == 0) | (y == 0) | (stride < x) {
+            self.marks[k] = 0;
+        } else {
+            let i = (y - 1) * stride + (x - 1);
+            self.set_cell(k, marks[i], Vector::at(mv, i));
+        }
+    }
+
+    // The row above y, from the column left of the macroblock on, as the six cells from `at` on.
+    fn load_row(
+        &mut self,
+        mv: &[i32],
+        marks: &[u8],
+        cols: usize,
+        column: usize,
+        y: usize,
+        at: usize,
+    )
+        requires { (at + 6 ≤ 30) × (cols ≤ 4096) × (column < cols) × (length mv.now ≡ 2 * length marks.now) × (y * (4 * cols) ≤ length marks.now) }
+        ensures loaded { (rows : ℕ) → y ≤ 4 * rows → (c : ℕ) → c < 6 → shown_at self.new (at + c) ≡ above_left_of (lent_field cols rows mv.now marks.now) (4 * column + c) y }
+        ensures others { (j : ℕ) → j < at → shown_at self.new j ≡ shown_at self.old j }
+    {
+        for c in 0..6 {
+            self.load_cell(mv, marks, cols, 4 * column + c, y, at + c);
+        }
+    }
+
+    // The same of a row whose six cells all lie on the picture.
+    fn copy_row(
+        &mut self,
+        mv: &[i32],
+        marks: &[u8],
+        cols: usize,
+        column: usize,
+        y: usize,
+        at: usize,
+    )
+        requires lent { (at + 6 ≤ 30) × (cols ≤ 4096) × (length mv.now ≡ 2 * length marks.now) × (y * (4 * cols) ≤ length marks.now) }
+        requires whole { (0 < column) × (0 < y) × (column + 1 < cols) }
+        ensures loaded { (rows : ℕ) → y ≤ 4 * rows → (c : ℕ) → c < 6 → shown_at self.new (at + c) ≡ above_left_of (lent_field cols rows mv.now marks.now) (4 * column + c) y }
+        ensures others { (j : ℕ) → j < at → shown_at self.new j ≡ shown_at self.old j }
+    {
         let from = (y - 1) * (4 * cols) + (4 * column - 1);
-        copy_marks(marked, marks, from, at);
-        copy_vectors(near, mv, 2 * from, 2 * at);
-    } else {
-        load_cells(near, marked, mv, marks, cols, column, y, at);
+        for c in 0..6 {
+            self.set_cell(at + c, marks[from + c], Vector::at(mv, from + c));
+        }
     }
-}
 
-// The window of a macroblock.
-pub fn load_neighbours(
-    near: &mut [i32; 60],
-    marked: &mut [u8; 30],
-    mv: &[i32],
-    marks: &[u8],
-    grid: Grid,
-    column: usize,
-    row: usize,
-)
-    requires window { Window near.old marked.old }
-    requires cols_bound { (grid.cols ≤ 4096) × (row < grid.rows) × (length mv.now ≡ 2 * length marks.now) × Inside (4 * grid.cols) (4 * column) (4 * row) 4 4 (length marks.now) }
-    ensures { (wide high : ℕ) → Seen wide high (lent_field grid.cols grid.rows mv.now marks.now) column row near.new marked.new }
-{
-    let whole = (0 < column) & (0 < row) & (column + 1 < grid.cols);
-    let mut r = 0;
-    while r < 5 {
-        load_row(
-            near,
-            marked,
-            mv,
-            marks,
-            grid.cols,
-            column,
-            4 * row + r,
-            r * 6,
-            whole,
-        );
-        r += 1;
+    // The window of a macroblock. As a result it would be copied: 10 % more instructions with prediction and storing.
+    pub fn load(&mut self, mv: &[i32], marks: &[u8], grid: Grid, column: usize, row: usize)
+        requires { (grid.cols ≤ 4096) × (row < grid.rows) × (length mv.now ≡ 2 * length marks.now) × Inside (4 * grid.cols) (4 * column) (4 * row) 4 4 (length marks.now) }
+        ensures { (wide high : ℕ) → Seen wide high (lent_field grid.cols grid.rows mv.now marks.now) column row self.new }
+    {
+        // Where all cells lie on the picture they are copied untested: with the tests it took 6 % more instructions.
+        let whole = (0 < column) & (0 < row) & (column + 1 < grid.cols);
+        for r in 0..5 {
+            if whole {
+                self.copy_row(mv, marks, grid.cols, column, 4 * row + r, r * 6);
+            } else {
+                self.load_row(mv, marks, grid.cols, column, 4 * row + r, r * 6);
+            }
+        }
     }
-}
 
-// The vector of cell i of the window.
-fn mv_block(near: &[i32; 60], marked: &[u8; 30], i: usize) -> Option<Vector>
-    requires { i < 30 }
-    ensures { result ≡ cell_at near.now marked.now i }
-{
-    if marked[i] == 0 {
-        None
-    } else {
-        Some(vector_at(near, i))
+    // The vector of cell i.
+    fn mv_block(&self, i: usize) -> Option<Vector>
+        requires { i < 30 }
+        ensures { result ≡ shown_at self.now i }
+    {
+        if self.marks[i] == 0 {
+            None
+        } else {
+            Some(self.vectors[i])
+        }
     }
-}
 
-// The numbers of cell i, whatever its mark.
-fn vector_at(near: &[i32; 60], i: usize) -> Vector
-    requires { i < 30 }
-    ensures { result ≡ vector (get_or near.now (2 * i) (pos 0)) (get_or near.now (2 * i + 1) (pos 0)) }
-{
-    let x = near[2 * i];
-    let y = near[2 * i + 1];
-    Vector {
-        x: Sixths(x),
-        y: Sixths(y),
+    // Cell c, or d where c is marked 0.
+    fn marked_or(&self, c: usize, d: usize) -> usize
+        requires { (c < 30) × (d < 30) }
+        ensures { (result < 30) × (result ≡ (when eqb (get_or self.now.marks c 0) 0 then d else c)) }
+    {
+        if self.marks[c] == 0 { d } else { c }
     }
-}
 
-// Cell c, or d where c is marked 0.
-fn marked_or(marked: &[u8; 30], c: usize, d: usize) -> usize
-    requires { (c < 30) × (d < 30) }
-    ensures { (result < 30) × (result ≡ (when eqb (get_or marked.now c 0) 0 then d else c)) }
-{
-    if marked[c] == 0 { d } else { c }
-}
-
-// The prediction from the cells a, b and c. Most often none is missing.
-fn predicted(near: &[i32; 60], marked: &[u8; 30], a: usize, b: usize, c: usize) -> Vector
-    requires { (a < 30) × (b < 30) × (c < 30) }
-    ensures { result ≡ combined (cell_at near.now marked.now a) (cell_at near.now marked.now b) (cell_at near.now marked.now c) }
-{
-    if (marked[a] == 0) | (marked[b] == 0) | (marked[c] == 0) {
-        return combined(
-            mv_block(near, marked, a),
-            mv_block(near, marked, b),
-            mv_block(near, marked, c),
-        );
+    // The prediction from the cells a, b and c. Most often none is missing: through `combined` alone it took 18 % more instructions.
+    fn predicted(&self, a: usize, b: usize, c: usize) -> Vector
+        requires { (a < 30) × (b < 30) × (c < 30) }
+        ensures { result ≡ combined (shown_at self.now a) (shown_at self.now b) (shown_at self.now c) }
+    {
+        if (self.marks[a] == 0) | (self.marks[b] == 0) | (self.marks[c] == 0) {
+            return combined(self.mv_block(a), self.mv_block(b), self.mv_block(c));
+        }
+        median_of(self.vectors[a], self.vectors[b], self.vectors[c])
     }
-    median_of(vector_at(near, a), vector_at(near, b), vector_at(near, c))
-}
 
-// The predictor of the partition of wide × high cells whose first cell is (cx, cy) of its macroblock, in any field that the window shows.
-pub fn predict_mv(
-    near: &[i32; 60],
-    marked: &[u8; 30],
-    grid: Grid,
-    column: usize,
-    row: usize,
-    cx: usize,
-    cy: usize,
-    wide: usize,
-    high: usize,
-) -> Vector
-    requires { Within grid.cols grid.rows column row × Part cx cy wide high }
-    ensures { (f : Field) → f.cols ≡ grid.cols → f.rows ≡ grid.rows → Seen wide high f column row near.now marked.now → result ≡ predictor f (4 * column + cx) (4 * row + cy) wide high }
-{
-    let d = cy * 6 + cx;
-    let c = marked_or(marked, d + 1 + wide, d);
-    let p = predicted(near, marked, d + 6, d + 1, c);
-    let px = p.x;
-    let py = p.y;
-    Vector {
-        x: held_in(16 * grid.cols, 4 * (4 * column + cx), 4 * wide, px),
-        y: held_in(16 * grid.rows, 4 * (4 * row + cy), 4 * high, py),
+    // The predictor of a partition, in any field that the window shows.
+    pub fn predict_mv(&self, grid: Grid, column: usize, row: usize, part: Partition) -> Vector
+        requires { Within grid.cols grid.rows column row }
+        ensures { (f : Field) → f.cols ≡ grid.cols → f.rows ≡ grid.rows → Seen part.wide part.high f column row self.now → result ≡ predictor f (4 * column + part.x) (4 * row + part.y) part.wide part.high }
+    {
+        let d = part.y * 6 + part.x;
+        let c = self.marked_or(d + 1 + part.wide, d);
+        let p = self.predicted(d + 6, d + 1, c);
+        let x = 4 * (4 * column + part.x);
+        let y = 4 * (4 * row + part.y);
+        Vector {
+            x: held_in(16 * grid.cols, x, 4 * part.wide, p.x),
+            y: held_in(16 * grid.rows, y, 4 * part.high, p.y),
+        }
     }
-}
 
-// The vector, marked 1, to cell i of the window.
-fn store_cell(near: &mut [i32; 60], marked: &mut [u8; 30], i: usize, vx: i32, vy: i32)
-    requires { i < 30 }
-    ensures near_after { near.new ≡ pair_set near.old i vx vy }
-    ensures marked_after { marked.new ≡ set marked.old i 1 }
-{
-    near[2 * i] = vx;
-    near[2 * i + 1] = vy;
-    marked[i] = 1;
-}
-
-// The vector to the corners of that partition, in the window: no other cell of it is looked at.
-pub fn store_partition_in(
-    near: &mut [i32; 60],
-    marked: &mut [u8; 30],
-    cx: usize,
-    cy: usize,
-    wide: usize,
-    high: usize,
-    vx: i32,
-    vy: i32,
-)
-    requires { Part cx cy wide high }
-    ensures near_after { near.new ≡ corner_pairs near.old ((cy + 1) * 6 + (cx + 1)) (wide - 1) (6 * (high - 1)) vx vy }
-    ensures marked_after { marked.new ≡ corner_marks marked.old ((cy + 1) * 6 + (cx + 1)) (wide - 1) (6 * (high - 1)) }
-{
-    let k = (cy + 1) * 6 + (cx + 1);
-    let across = wide - 1;
-    let down = 6 * (high - 1);
-    store_cell(near, marked, k, vx, vy);
-    store_cell(near, marked, k + across, vx, vy);
-    store_cell(near, marked, k + down, vx, vy);
-    store_cell(near, marked, k + across + down, vx, vy);
+    // The vector, marked 1, to the corners of a partition: no other cell of it is looked at.
+    pub fn store_partition(&mut self, part: Partition, v: Vector)
+        ensures vectors_after { self.new.vectors ≡ corners self.old.vectors ((part.y + 1) * 6 + (part.x + 1)) (part.wide - 1) (6 * (part.high - 1)) v }
+        ensures marks_after { self.new.marks ≡ corners self.old.marks ((part.y + 1) * 6 + (part.x + 1)) (part.wide - 1) (6 * (part.high - 1)) 1 }
+    {
+        let k = (part.y + 1) * 6 + (part.x + 1);
+        let across = part.wide - 1;
+        let down = 6 * (part.high - 1);
+        self.set_cell(k, 1, v);
+        self.set_cell(k + across, 1, v);
+        self.set_cell(k + down, 1, v);
+        self.set_cell(k + across + down, 1, v);
+    }
 }

@@ -1,7 +1,6 @@
 -- `vectors::svq3_frame::convert_predictor` answers `convert_predictor`: at every precision a rounded sixth.
-use mathlib.Core.Path.{◌≡◌, sym, ap, ap₂, subst, ◌∙◌}
-use Prim.Native.Nat.{◌≤◌}
-use lib.IntN.{pos, nat_abs, ◌+ℤ◌, ◌*ℤ◌}
+use mathlib.Core.Path.{◌≡◌, ap, ap₂, ◌∙◌}
+use lib.IntN.{pos, ◌+ℤ◌, ◌*ℤ◌}
 use mir.Syntax.{w32}
 use mir.Val.{SFits}
 use borrow.Author.Rules.{rules}
@@ -24,15 +23,6 @@ argument c =
     let h = units-size c.args.precision c.args.p.0 c.requires in
     let f : SFits w32 (pos (units_in_sample c.args.precision) *ℤ c.args.p.0) = search signed depth 20 in
     ap (read w32) (product c) ∙ field-read _ f.sfits
-
-pub overflow_mul-n : goal.overflow_mul-n
-overflow_mul-n c =
-    let h = units-size c.args.precision c.args.p.0 c.requires in
-    subst (SFits w32) (sym (product (goal.at.overflow_mul-n c).After-units_in_sample-n)) (search signed depth 20)
-
-pub floor_of_sixth-requires : goal.floor_of_sixth-requires
-floor_of_sixth-requires c =
-    subst (λ z. nat_abs z ≤ 1179648) (sym (argument (goal.at.floor_of_sixth-requires c).After-units_in_sample-n)) (units-size c.args.precision c.args.p.0 c.requires)
 
 pub returns : goal.returns
 returns c =

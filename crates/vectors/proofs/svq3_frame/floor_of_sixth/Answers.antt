@@ -6,8 +6,8 @@ use lib.IntN.{ℤ, pos, nat_abs, ◌+ℤ◌}
 use mir.Syntax.{w32}
 use mir.Facts.{to_z-of_z}
 use Rattle.ints.specs.Z.{floor_z}
-use Rattle.ints.proofs.Fits.{read, cast_unsigned}
-use Rattle.vectors.proofs.Moves.{raised-fits, raised-read, raised-word, number_small, sixth-small, sixth-read, less-fits}
+use Rattle.ints.proofs.Fits.{read}
+use Rattle.vectors.proofs.Moves.{sixth-read}
 use Rattle.vectors.proofs.svq3_frame.floor_of_sixth.Goals.{Start}
 use Rattle.vectors.proofs.svq3_frame.floor_of_sixth.Goals as goal
 
@@ -19,18 +19,6 @@ same c = to_z-of_z c.ranges.v
 
 size : (c : Start) → nat_abs (number c) ≤ 1179648
 size c = rw (same c) c.requires
-
-pub overflow_add-n : goal.overflow_add-n
-overflow_add-n c = raised-fits _ (omega arith) (omega arith) (number c) (size c)
-
-pub overflow_cast-n : goal.overflow_cast-n
-overflow_cast-n c = cast_unsigned w32 (raised-read _ (omega arith) (omega arith) (number c) (size c)) (raised-word _ (omega arith) (omega arith) (number c) (size c))
-
-pub overflow_cast-result : goal.overflow_cast-result
-overflow_cast-result c = record { sfits = sixth-small _ (number_small _ (omega arith) (omega arith) (number c) (size c)) }
-
-pub overflow_sub-result : goal.overflow_sub-result
-overflow_sub-result c = less-fits _ (omega arith) (omega arith) (number c) (size c)
 
 pub returns : goal.returns
 returns c = sixth-read _ (omega arith) (omega arith) (number c) (size c) (omega arith) ∙ ap (λ z. floor_z (z +ℤ pos 3) 6) (same c)

@@ -1,14 +1,13 @@
 -- `vectors::svq3_frame::move_component` answers `stored_part` and `clipped_part`: the exact product of a small sum, and else what `move_held` answers.
 use mathlib.Core.Path.{◌≡◌, sym, ap, ap₂, subst, ◌∙◌}
 use mathlib.Core.Bool.{false, ◌||◌}
-use Prim.Native.Nat.{◌^◌, ◌<◌}
 use lib.IntN.{ℤ, pos, negsuc, ◌+ℤ◌, ◌*ℤ◌}
-use lib.Signed.{mag, lt_z}
+use lib.Signed.{lt_z}
 use mir.Syntax.{w32, w64}
 use mir.Val.{SFits}
 use borrow.Author.Rules.{rules}
 use Rattle.ints.specs.Z.{sat_z, over_z}
-use Rattle.ints.proofs.Fits.{read, signed, back}
+use Rattle.ints.proofs.Fits.{read, back}
 use Rattle.vectors.specs.Units.{summed, scaled, stored_scale, stored_part, clipped_part}
 use Rattle.vectors.proofs.Tests.{neither}
 use Rattle.vectors.proofs.Moves.{sum-wide, small-sum, small_product, small-stored}
@@ -44,23 +43,8 @@ module _ (c : After-stored_scale-scale) where
   product-fits : SFits w32 (read w32 wide *ℤ read w32 c.stored_scale-scale.result)
   product-fits = subst (SFits w32) (sym product) (small_product exact bounds.0 bounds.1 c.args.precision)
 
-pub overflow_cast-value : goal.overflow_cast-value
-overflow_cast-value c = narrow-fits (goal.at.overflow_cast-value c).After-stored_scale-scale
-
 pub overflow_mul-value : goal.overflow_mul-value
 overflow_mul-value c = product-fits (goal.at.overflow_mul-value c).After-stored_scale-scale
-
-pub overflow_cast-sum : goal.overflow_cast-sum
-overflow_cast-sum c = let f : mag c.convert_predictor-from.result.0 < 2 ^ 31 = search rules in search signed depth 20
-
-pub overflow_cast-sum-2 : goal.overflow_cast-sum-2
-overflow_cast-sum-2 c = let f : mag c.args.d.0 < 2 ^ 31 = search rules in search signed depth 20
-
-pub overflow_add-sum : goal.overflow_add-sum
-overflow_add-sum c =
-    let f : mag c.convert_predictor-from.result.0 < 2 ^ 31 = search rules in
-    let g : mag c.args.d.0 < 2 ^ 31 = search rules in
-    search signed depth 20
 
 pub returns-then-sum : goal.returns-then-sum
 unfolding summed scaled stored_part clipped_part
