@@ -2,59 +2,70 @@
 -- Assumes nothing.
 use mathlib.Core.Path.{◌≡◌, sym, ap, ◌∙◌, transport}
 use mathlib.Core.List.{List}
-use Prim.Native.Nat.{ℕ, ◌+◌, ◌-◌, ◌*◌, ◌/◌, ◌≤◌, ◌<◌}
+use Prim.Native.Nat.{ℕ, ◌+◌, ◌-◌, ◌*◌, ◌/◌, ◌≤◌}
 use lib.IntN.{ℤ, nat_abs}
 use lib.ListN.{set}
 use Rattle.bits.specs.Code.{bit_value}
-use Rattle.vectors.specs.Modes.{partition_width, partition_height, num_motion_vectors, offset_x, offset_y}
+use Rattle.vectors.specs.Modes.{partition_width, partition_height, offset_x, offset_y}
 use Rattle.picture.specs.Field.{Field}
 use Rattle.vectors.specs.Predict.{predictor}
 use Rattle.vectors.specs.Units.{stored_part, clipped_part}
 use Rattle.vectors.specs.Stored.{stored_field}
-use Rattle.vectors.specs.InnerWindow.{Seen, Part, Follows, corner_pairs, corner_marks}
+use Rattle.vectors.specs.InnerWindow.{Seen, Follows, corners}
 use Rattle.vectors.specs.declared.svq3_frame.Vector.{Vector}
-use Rattle.vectors.proofs.Following.{part_of, follows-held, follows-stored}
+use Rattle.vectors.specs.declared.svq3_mb.Partition.{Partition}
+use Rattle.vectors.specs.declared.window.Neighbours.{Neighbours}
+use Rattle.vectors.proofs.Following.{follows-held, follows-stored}
 use Rattle.reading.specs.Read.{Moving, moved, predictor_at, stored_at}
 use Rattle.reading.specs.InnerAnswers.{InGrid, Holds}
 use Rattle.reading.specs.declared.svq3_frame.Motion.{Motion}
 
--- partition i, whose offsets and size in samples are ox, oy, w, h
-module _ (motion : Motion) (i : ℕ) (g : InGrid motion) (among : i < num_motion_vectors motion.call.mode)
-    {ox oy w h : ℕ} (eox : ox ≡ offset_x motion.call.mode i) (eoy : oy ≡ offset_y motion.call.mode i) (ew : w ≡ partition_width motion.call.mode) (eh : h ≡ partition_height motion.call.mode) where
-  pub part_at : Part (ox / 4) (oy / 4) (w / 4) (h / 4)
-  part_at = rw (eox, eoy, ew, eh) (part_of motion.call.mode i g.mode among)
+-- partition i is where its mode puts it
+abbrev pub Ith : Partition → ℕ → ℕ → Type 0
+Ith part mode i = (part.x ≡ offset_x mode i / 4) × (part.y ≡ offset_y mode i / 4) × (part.wide ≡ partition_width mode / 4) × (part.high ≡ partition_height mode / 4)
 
-  -- the window, by the size as it was answered
-  size-follows : {f : Field} {near : List ℤ} {marked : List ℕ} → Follows (partition_width motion.call.mode / 4) (partition_height motion.call.mode / 4) f motion.grid.cols motion.grid.rows motion.call.column motion.call.row near marked → Follows (w / 4) (h / 4) f motion.grid.cols motion.grid.rows motion.call.column motion.call.row near marked
-  size-follows {f} {near} {marked} t = transport (λ j. Follows (sym ew j / 4) (sym eh j / 4) f motion.grid.cols motion.grid.rows motion.call.column motion.call.row near marked) t
+module _ (motion : Motion) (i : ℕ) (g : InGrid motion) (part : Partition) (e : Ith part motion.call.mode i) where
+  abbrev FollowsAt : ℕ → ℕ → Field → Neighbours → Type 0
+  FollowsAt wide high f near = Follows wide high f motion.grid.cols motion.grid.rows motion.call.column motion.call.row near
 
-  module _ {f : Field} {near : List ℤ} {marked : List ℕ} (t : Follows (partition_width motion.call.mode / 4) (partition_height motion.call.mode / 4) f motion.grid.cols motion.grid.rows motion.call.column motion.call.row near marked)
-      {from : Vector} (answered : (f : Field) → f.cols ≡ motion.grid.cols → f.rows ≡ motion.grid.rows → Seen (w / 4) (h / 4) f motion.call.column motion.call.row near marked → from ≡ predictor f (4 * motion.call.column + ox / 4) (4 * motion.call.row + oy / 4) (w / 4) (h / 4)) where
+  -- the window, by the partition's size
+  size-follows : {f : Field} {near : Neighbours} → FollowsAt (partition_width motion.call.mode / 4) (partition_height motion.call.mode / 4) f near → FollowsAt part.wide part.high f near
+  size-follows {f} {near} t = transport (λ j. FollowsAt (sym e.2 j) (sym e.3 j) f near) t
+
+  -- what a prediction answers
+  abbrev Predicts : Neighbours → Vector → Type 0
+  Predicts near from =
+      (f : Field) → f.cols ≡ motion.grid.cols → f.rows ≡ motion.grid.rows → Seen part.wide part.high f motion.call.column motion.call.row near
+      → from ≡ predictor f (4 * motion.call.column + part.x) (4 * motion.call.row + part.y) part.wide part.high
+
+  module _ {f : Field} {near : Neighbours} (t : FollowsAt (partition_width motion.call.mode / 4) (partition_height motion.call.mode / 4) f near) {from : Vector} (answered : Predicts near from) where
     pub held_at : (nat_abs from.x.0 ≤ 393216) × (nat_abs from.y.0 ≤ 393216)
-    held_at = follows-held g.within (size-follows t) (ox / 4) (oy / 4) part_at (answered f t.same_cols t.same_rows (size-follows t).seen)
+    held_at = follows-held g.within (size-follows t) part.x part.y part.lies (answered f t.same_cols t.same_rows (size-follows t).seen)
 
     predicted-at : from ≡ predictor_at motion.call f i
     unfolding predictor_at
-    predicted-at = answered f t.same_cols t.same_rows (size-follows t).seen ∙ λ j. predictor f (4 * motion.call.column + eox j / 4) (4 * motion.call.row + eoy j / 4) (ew j / 4) (eh j / 4)
+    predicted-at = answered f t.same_cols t.same_rows (size-follows t).seen ∙ λ j. predictor f (4 * motion.call.column + e.0 j) (4 * motion.call.row + e.1 j) (e.2 j) (e.3 j)
 
   -- MOVED
-  module _ (dx dy : ℤ) (m : Moving) {clipped : ℕ} {vectors near : List ℤ} {marked : List ℕ} (t : Holds m motion clipped vectors near marked)
-      {from : Vector} (answered : (f : Field) → f.cols ≡ motion.grid.cols → f.rows ≡ motion.grid.rows → Seen (w / 4) (h / 4) f motion.call.column motion.call.row near marked → from ≡ predictor f (4 * motion.call.column + ox / 4) (4 * motion.call.row + oy / 4) (w / 4) (h / 4))
-      {vx vy : ℤ} (ex : vx ≡ stored_part motion.precision from.x.0 dx) (ey : vy ≡ stored_part motion.precision from.y.0 dy)
+  module _ (dx dy : ℤ) (m : Moving) {clipped : ℕ} {vectors : List ℤ} {near : Neighbours} (t : Holds m motion clipped vectors near) {from : Vector} (answered : Predicts near from)
+      (v : Vector) (ex : v.x.0 ≡ stored_part motion.precision from.x.0 dx) (ey : v.y.0 ≡ stored_part motion.precision from.y.0 dy)
       {bx by : ℕ} (fx : bx ≡ bit_value (clipped_part motion.precision from.x.0 dx)) (fy : by ≡ bit_value (clipped_part motion.precision from.y.0 dy))
-      {near' : List ℤ} {marked' : List ℕ} (en : near' ≡ corner_pairs near ((oy / 4 + 1) * 6 + (ox / 4 + 1)) (w / 4 - 1) (6 * (h / 4 - 1)) vx vy) (em : marked' ≡ corner_marks marked ((oy / 4 + 1) * 6 + (ox / 4 + 1)) (w / 4 - 1) (6 * (h / 4 - 1))) where
-    pub moved_at : Holds (moved motion.call motion.precision i m dy dx) motion (clipped + bx + by) (set (set vectors (2 * i) vx) (2 * i + 1) vy) near' marked'
+      {vx vy : ℤ} (ax : vx ≡ v.x.0) (ay : vy ≡ v.y.0)
+      {near' : Neighbours} (en : near'.vectors ≡ corners near.vectors ((part.y + 1) * 6 + (part.x + 1)) (part.wide - 1) (6 * (part.high - 1)) v) (em : near'.marks ≡ corners near.marks ((part.y + 1) * 6 + (part.x + 1)) (part.wide - 1) (6 * (part.high - 1)) 1) where
+    pub moved_at : Holds (moved motion.call motion.precision i m dy dx) motion (clipped + bx + by) (set (set vectors (2 * i) vx) (2 * i + 1) vy) near'
     unfolding moved stored_at
     moved_at =
         let f = m.field in
         let pv = predicted-at t.follows answered in
-        let sx = ex ∙ ap (λ (v : Vector). stored_part motion.precision v.x.0 dx) pv in
-        let sy = ey ∙ ap (λ (v : Vector). stored_part motion.precision v.y.0 dy) pv in
-        let kx = fx ∙ ap (λ (v : Vector). bit_value (clipped_part motion.precision v.x.0 dx)) pv in
-        let ky = fy ∙ ap (λ (v : Vector). bit_value (clipped_part motion.precision v.y.0 dy)) pv in
+        let sx = ex ∙ ap (λ (u : Vector). stored_part motion.precision u.x.0 dx) pv in
+        let sy = ey ∙ ap (λ (u : Vector). stored_part motion.precision u.y.0 dy) pv in
+        let kx = fx ∙ ap (λ (u : Vector). bit_value (clipped_part motion.precision u.x.0 dx)) pv in
+        let ky = fy ∙ ap (λ (u : Vector). bit_value (clipped_part motion.precision u.y.0 dy)) pv in
+        let wx = ax ∙ sx in
+        let wy = ay ∙ sy in
         record {
           count = λ j. t.count j + kx j + ky j;
-          stored = λ j. set (set (t.stored j) (2 * i) (sx j)) (2 * i + 1) (sy j);
-          follows = transport (λ j. Follows (ew j / 4) (eh j / 4) (stored_field f (4 * motion.call.column + eox j / 4) (4 * motion.call.row + eoy j / 4) (ew j / 4) (eh j / 4) (sx j) (sy j)) motion.grid.cols motion.grid.rows motion.call.column motion.call.row near' marked')
-              (follows-stored g.within (size-follows t.follows) (ox / 4) (oy / 4) part_at vx vy en em);
+          stored = λ j. set (set (t.stored j) (2 * i) (wx j)) (2 * i + 1) (wy j);
+          follows = transport (λ j. FollowsAt (e.2 j) (e.3 j) (stored_field f (4 * motion.call.column + e.0 j) (4 * motion.call.row + e.1 j) (e.2 j) (e.3 j) (sx j) (sy j)) near')
+              (follows-stored g.within (size-follows t.follows) part.x part.y part.lies v en em);
         }

@@ -18,6 +18,7 @@ use Rattle.std.specs.Prelude.{Result, Ok, Err}
 use Rattle.refusal.proofs.Answered.{Answered, answered-got, answered-refused}
 use Rattle.levels.proofs.Gots.{after-zero, after-after}
 use Rattle.reading.specs.Read.{Moving, moved, read_vectors}
+use Rattle.vectors.specs.declared.window.Neighbours.{Neighbours}
 use Rattle.reading.specs.InnerAnswers.{vectors_answer, Holds, Stepping, Vectoring}
 use Rattle.reading.specs.declared.svq3_frame.Motion.{Motion}
 use Rattle.refusal.proofs.Lists.{mapped}
@@ -68,28 +69,28 @@ module _ (motion : Motion) (i : ℕ) (m : Moving) (s : List Bool) (at : ℕ) whe
         }
 
   -- what the reader of one partition answers and leaves
-  module _ {vectors near : List ℤ} {marked : List ℕ} where
-    step-refused : (r : Refusal) → read_vectors motion.call motion.precision 1 i m (drop at s) ≡ refused r → Stepping motion at (read_vectors motion.call motion.precision 1 i m (drop at s)) (Err r) vectors near marked
+  module _ {vectors : List ℤ} {near : Neighbours} where
+    step-refused : (r : Refusal) → read_vectors motion.call motion.precision 1 i m (drop at s) ≡ refused r → Stepping motion at (read_vectors motion.call motion.precision 1 i m (drop at s)) (Err r) vectors near
     step-refused r e = record { answers = sym (ap (vectors_answer at) e); leaves = λ o n f. never (sym e ∙ f) }
 
-    pub step-no-vertical : (r : Refusal) → Err r ≡ answered at (signed_code (drop at s)) → Stepping motion at (read_vectors motion.call motion.precision 1 i m (drop at s)) (Err r) vectors near marked
+    pub step-no-vertical : (r : Refusal) → Err r ≡ answered at (signed_code (drop at s)) → Stepping motion at (read_vectors motion.call motion.precision 1 i m (drop at s)) (Err r) vectors near
     step-no-vertical r e = step-refused r (no-vertical r e)
 
     pub step-no-horizontal : (dy : ℤ) (q : ℕ) → Ok (dy, q) ≡ answered at (signed_code (drop at s)) → (r : Refusal) → Err r ≡ answered q (signed_code (drop q s))
-        → Stepping motion at (read_vectors motion.call motion.precision 1 i m (drop at s)) (Err r) vectors near marked
+        → Stepping motion at (read_vectors motion.call motion.precision 1 i m (drop at s)) (Err r) vectors near
     step-no-horizontal dy q e r f = step-refused r (no-horizontal dy q e r f)
 
     -- dy' and dx' are the differences as they are passed on
     pub step-moved : (dy : ℤ) (q : ℕ) → Ok (dy, q) ≡ answered at (signed_code (drop at s)) → (dx : ℤ) (next : ℕ) → Ok (dx, next) ≡ answered q (signed_code (drop q s))
-        → (dy' dx' : ℤ) → dy' ≡ dy → dx' ≡ dx → (k : ℕ) → Holds (moved motion.call motion.precision i m dy' dx') motion k vectors near marked
-        → Stepping motion at (read_vectors motion.call motion.precision 1 i m (drop at s)) (Ok (k, next)) vectors near marked
+        → (dy' dx' : ℤ) → dy' ≡ dy → dx' ≡ dx → (k : ℕ) → Holds (moved motion.call motion.precision i m dy' dx') motion k vectors near
+        → Stepping motion at (read_vectors motion.call motion.precision 1 i m (drop at s)) (Ok (k, next)) vectors near
     step-moved dy q e dx next f dy' dx' y x k h' =
-        let h = subst (λ (z : ℤ). Holds (moved motion.call motion.precision i m dy z) motion k vectors near marked) x (subst (λ (z : ℤ). Holds (moved motion.call motion.precision i m z dx') motion k vectors near marked) y h') in
+        let h = subst (λ (z : ℤ). Holds (moved motion.call motion.precision i m dy z) motion k vectors near) x (subst (λ (z : ℤ). Holds (moved motion.call motion.precision i m z dx') motion k vectors near) y h') in
         let a = both_read dy q e dx next f in
         record {
           answers = answer-of at (read_vectors motion.call motion.precision 1 i m (drop at s)) (moved motion.call motion.precision i m dy dx) k next a h.count;
           leaves = λ o n g.
-              subst (λ (o : Moving). Holds o motion o.clipped vectors near marked) (got-value (sym a.is ∙ g)) (record { count = refl; stored = h.stored; follows = h.follows });
+              subst (λ (o : Moving). Holds o motion o.clipped vectors near) (got-value (sym a.is ∙ g)) (record { count = refl; stored = h.stored; follows = h.follows });
         }
 
 -- ---- one partition, then those behind it
@@ -146,8 +147,8 @@ module _ (motion : Motion) where
           few = omega (arith, g.few, (grown motion.call motion.precision 1 i m m' (drop q s) a.taken a.is).at_most);
         }
 
-    module _ {vectors near : List ℤ} {marked : List ℕ} (answer : Result (ℕ × ℕ) Refusal) (t : Stepping motion q (read_vectors motion.call motion.precision 1 i m (drop q s)) answer vectors near marked) where
-      pub goes_on : (k next : ℕ) → i < n → answer ≡ Ok (k, next) → (m' : Moving) × Going n m₀ s at (i + 1) next m' × Holds m' motion k vectors near marked
+    module _ {vectors : List ℤ} {near : Neighbours} (answer : Result (ℕ × ℕ) Refusal) (t : Stepping motion q (read_vectors motion.call motion.precision 1 i m (drop q s)) answer vectors near) where
+      pub goes_on : (k next : ℕ) → i < n → answer ≡ Ok (k, next) → (m' : Moving) × Going n m₀ s at (i + 1) next m' × Holds m' motion k vectors near
       goes_on k next h e =
           let a = vectors-answered q (read_vectors motion.call motion.precision 1 i m (drop q s)) k next (sym e ∙ t.answers) in
           let l = t.leaves a.0 a.1.taken a.1.is in

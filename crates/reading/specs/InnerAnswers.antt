@@ -7,6 +7,7 @@ use Rattle.refusal.specs.declared.Refusal.{Refusal}
 use Rattle.vectors.specs.Modes.{partition_width, partition_height}
 use Rattle.picture.specs.InnerField.{lent_field}
 use Rattle.vectors.specs.InnerWindow.{Follows}
+use Rattle.vectors.specs.declared.window.Neighbours.{Neighbours}
 use Rattle.picture.specs.InnerPicture.{Within}
 use Rattle.record.specs.Record.{Record}
 use Rattle.record.specs.declared.Head.{Head}
@@ -34,15 +35,15 @@ pub record InGrid (motion : Motion) : Type 0 where
   pub mode : motion.call.mode ≤ 7
 
 -- what was read of the vectors, as the code holds it: how many components were clipped, the vectors, and a window that follows the field
-pub record Holds (m : Moving) (motion : Motion) (clipped : ℕ) (vectors near : List ℤ) (marked : List ℕ) : Type 0 where
+pub record Holds (m : Moving) (motion : Motion) (clipped : ℕ) (vectors : List ℤ) (near : Neighbours) : Type 0 where
   pub count : clipped ≡ m.clipped
   pub stored : vectors ≡ m.vectors
-  pub follows : Follows (partition_width motion.call.mode / 4) (partition_height motion.call.mode / 4) m.field motion.grid.cols motion.grid.rows motion.call.column motion.call.row near marked
+  pub follows : Follows (partition_width motion.call.mode / 4) (partition_height motion.call.mode / 4) m.field motion.grid.cols motion.grid.rows motion.call.column motion.call.row near
 
 -- the answer of a reader of one partition's vector, and what it leaves, which is said where it has a vector
-pub record Stepping (motion : Motion) (at : ℕ) (read : Got Moving) (answer : Result (ℕ × ℕ) Refusal) (vectors near : List ℤ) (marked : List ℕ) : Type 0 where
+pub record Stepping (motion : Motion) (at : ℕ) (read : Got Moving) (answer : Result (ℕ × ℕ) Refusal) (vectors : List ℤ) (near : Neighbours) : Type 0 where
   pub answers : answer ≡ vectors_answer at read
-  pub leaves : (m : Moving) (n : ℕ) → read ≡ got m n → Holds m motion m.clipped vectors near marked
+  pub leaves : (m : Moving) (n : ℕ) → read ≡ got m n → Holds m motion m.clipped vectors near
 
 -- of all vectors
 pub record Vectoring (at : ℕ) (read : Got Moving) (answer : Result (ℕ × ℕ) Refusal) (vectors : List ℤ) : Type 0 where

@@ -19,12 +19,12 @@ use picture::Grid;
 use record::Head;
 use refusal::Refusal;
 use state::{Call, Flags};
-use vectors::svq3_frame::{Units, move_component};
+use vectors::svq3_frame::{Units, Vector, move_component};
 use vectors::svq3_mb::{
-    Svq3MvPrecision, num_motion_vectors, partition_height, partition_offset_x, partition_offset_y,
-    partition_width, precision_number, read_inter_mv_precision_p_frame,
+    Partition, Svq3MvPrecision, num_motion_vectors, precision_number,
+    read_inter_mv_precision_p_frame,
 };
-use vectors::window::{load_neighbours, predict_mv, store_partition_in};
+use vectors::window::Neighbours;
 
 // What the partitions of a macroblock have in common: its grid, its call and the precision of its vectors.
 #[derive(Clone, Copy)]
@@ -37,8 +37,7 @@ struct Motion {
 // Partition i moved by its difference (dx, dy) and stored, so that the next one's prediction sees it. Answers how many components were clipped so far.
 fn move_partition(
     vectors: &mut [i32],
-    near: &mut [i32; 60],
-    marked: &mut [u8; 30],
+    near: &mut Neighbours,
     motion: Motion,
     i: usize,
     clipped: u32,
@@ -46,38 +45,28 @@ fn move_partition(
     dy: Units,
 ) -> u32
     requires in_grid { InGrid motion × (i < num_motion_vectors motion.call.mode) × (clipped ≤ 30) }
-    requires vectors_len { (length vectors.old ≡ 32) × ((m : Moving) × Holds m motion clipped vectors.old near.old marked.old) }
-    ensures { (m : Moving) → Holds m motion clipped vectors.old near.old marked.old → Holds (moved motion.call motion.precision i m dy.0 dx.0) motion result vectors.new near.new marked.new }
+    requires vectors_len { (length vectors.old ≡ 32) × ((m : Moving) × Holds m motion clipped vectors.old near.old) }
+    ensures { (m : Moving) → Holds m motion clipped vectors.old near.old → Holds (moved motion.call motion.precision i m dy.0 dx.0) motion result vectors.new near.new }
 {
     let call = motion.call;
-    let column = call.column as usize;
-    let row = call.row as usize;
-    let wide = partition_width(call.mode) / 4;
-    let high = partition_height(call.mode) / 4;
-    let cx = partition_offset_x(call.mode, i) / 4;
-    let cy = partition_offset_y(call.mode, i) / 4;
-    let grid = motion.grid;
-    let from = predict_mv(near, marked, grid, column, row, cx, cy, wide, high);
-    let px = from.x;
-    let py = from.y;
-    let precision = motion.precision;
-    let mx = move_component(px, precision, dx);
-    let my = move_component(py, precision, dy);
-    let x = mx.value;
-    let y = my.value;
-    let vx = x.0;
-    let vy = y.0;
-    store_partition_in(near, marked, cx, cy, wide, high, vx, vy);
-    vectors[2 * i] = vx;
-    vectors[2 * i + 1] = vy;
+    let part = Partition::of_mode(call.mode, i);
+    let from = near.predict_mv(motion.grid, call.column as usize, call.row as usize, part);
+    let mx = move_component(from.x, motion.precision, dx);
+    let my = move_component(from.y, motion.precision, dy);
+    let v = Vector {
+        x: mx.value,
+        y: my.value,
+    };
+    near.store_partition(part, v);
+    vectors[2 * i] = v.x.0;
+    vectors[2 * i + 1] = v.y.0;
     clipped + u32::from(mx.clipped) + u32::from(my.clipped)
 }
 
 // Partition i: its difference read, the vertical one first, and the partition moved by it.
 fn read_partition(
     vectors: &mut [i32],
-    near: &mut [i32; 60],
-    marked: &mut [u8; 30],
+    near: &mut Neighbours,
     bits: &[u8],
     at: usize,
     motion: Motion,
@@ -85,21 +74,12 @@ fn read_partition(
     clipped: u32,
 ) -> Result<(u32, usize), Refusal>
     requires in_grid { InGrid motion × (i < num_motion_vectors motion.call.mode) × (clipped ≤ 30) }
-    requires vectors_len { (length vectors.old ≡ 32) × ((m : Moving) × Holds m motion clipped vectors.old near.old marked.old) }
+    requires vectors_len { (length vectors.old ≡ 32) × ((m : Moving) × Holds m motion clipped vectors.old near.old) }
     requires bits_len_bound { length bits.now < 2 ^ 61 }
-    ensures { (m : Moving) → Holds m motion clipped vectors.old near.old marked.old → Stepping motion at (read_vectors motion.call motion.precision 1 i m (drop at (bit_list bits.now))) result vectors.new near.new marked.new }
+    ensures { (m : Moving) → Holds m motion clipped vectors.old near.old → Stepping motion at (read_vectors motion.call motion.precision 1 i m (drop at (bit_list bits.now))) result vectors.new near.new }
 {
     let ((dy, dx), next) = read_signed_pair(bits, at)?;
-    let so_far = move_partition(
-        vectors,
-        near,
-        marked,
-        motion,
-        i,
-        clipped,
-        Units(dx),
-        Units(dy),
-    );
+    let so_far = move_partition(vectors, near, motion, i, clipped, Units(dx), Units(dy));
     Ok((so_far, next))
 }
 
@@ -116,26 +96,20 @@ fn read_vectors(
     requires mv_len { (length mv.now ≡ 2 * cell_count motion.grid.cols motion.grid.rows) × (length marks.now ≡ cell_count motion.grid.cols motion.grid.rows) × (vectors.old ≡ no_vectors) }
     ensures { Vectoring at (read_vectors motion.call motion.precision (num_motion_vectors motion.call.mode) 0 (at_first (lent_field motion.grid.cols motion.grid.rows mv.now marks.now)) (drop at (bit_list bits.now))) result vectors.new }
 {
-    let mut near: [i32; 60] = [0; 60];
-    let mut marked: [u8; 30] = [0; 30];
     let call = motion.call;
-    let column = call.column as usize;
-    let row = call.row as usize;
-    load_neighbours(&mut near, &mut marked, mv, marks, motion.grid, column, row);
+    let mut near = Neighbours::new();
+    near.load(
+        mv,
+        marks,
+        motion.grid,
+        call.column as usize,
+        call.row as usize,
+    );
     let n = num_motion_vectors(call.mode);
     let mut p = at;
     let mut clipped = 0;
     for i in 0..n {
-        (clipped, p) = read_partition(
-            vectors,
-            &mut near,
-            &mut marked,
-            bits,
-            p,
-            motion,
-            i,
-            clipped,
-        )?;
+        (clipped, p) = read_partition(vectors, &mut near, bits, p, motion, i, clipped)?;
     }
     Ok((clipped, p))
 }

@@ -1,43 +1,32 @@
 -- `reading::svq3_frame::move_partition` makes `moved` of what was read before.
 use mathlib.Core.Path.{◌≡◌, refl, ap, ◌∙◌}
-use Prim.Native.Nat.{◌/◌, ◌≤◌, ◌<◌}
+use Prim.Native.Nat.{◌≤◌}
 use native.Mathlib.Omega.{arith}
 use borrow.Author.Rules.{rules}
 use lib.IntN.{nat_abs}
 use lib.ListN.{length-set}
 use Rattle.bits.specs.Code.{bit_value}
 use Rattle.vectors.proofs.Partitions.{num-most}
-use Rattle.vectors.specs.InnerWindow.{Part}
 use Rattle.vectors.proofs.Moves.{field-read}
 use Rattle.reading.proofs.Vectors.{value-most}
-use Rattle.reading.proofs.Partitions.{part_at, held_at, moved_at}
-use Rattle.reading.proofs.svq3_frame.move_partition.Goals.{After-partition_offset_y-cy, After-predict_mv-from, After-store_partition_in}
+use Rattle.reading.proofs.Partitions.{held_at, moved_at}
+use Rattle.reading.proofs.svq3_frame.move_partition.Goals.{After-predict_mv-from}
 use Rattle.reading.proofs.svq3_frame.move_partition.Goals as goal
 use Rattle.std.specs.Prelude.{Bool, true, false}
 use Rattle.std.specs.Int.{from_bool}
 
-part : (c : After-partition_offset_y-cy) → Part (c.partition_offset_x-cx.result / 4) (c.partition_offset_y-cy.result / 4) (c.partition_width-wide.result / 4) (c.partition_height-high.result / 4)
-part c =
-    part_at c.args.motion c.args.i c.requires.in_grid.0 c.requires.in_grid.1 c.partition_offset_x-cx.ensures c.partition_offset_y-cy.ensures c.partition_width-wide.ensures c.partition_height-high.ensures
-
 held : (c : After-predict_mv-from) → (nat_abs c.predict_mv-from.result.x.0 ≤ 393216) × (nat_abs c.predict_mv-from.result.y.0 ≤ 393216)
-held c =
-    held_at c.args.motion c.args.i c.requires.in_grid.0 c.requires.in_grid.1 c.partition_offset_x-cx.ensures c.partition_offset_y-cy.ensures c.partition_width-wide.ensures c.partition_height-high.ensures
-    c.requires.vectors_len.1.1.follows c.predict_mv-from.ensures
-
--- there are at most 16 partitions
-few : (c : After-store_partition_in) → c.args.i < 16
-few c = omega (arith, num-most c.args.motion.call.mode c.requires.in_grid.0.mode, c.requires.in_grid.1)
+held c = held_at c.args.motion c.args.i c.requires.in_grid.0 c.of_mode-part.result c.of_mode-part.ensures c.requires.vectors_len.1.1.follows c.predict_mv-from.ensures
 
 counts : (b : Bool) → from_bool b ≡ bit_value b
 counts true = refl
 counts false = refl
 
 pub bounds-vectors-i : goal.bounds-vectors-i
-bounds-vectors-i c = omega (arith, few c, c.requires.vectors_len.0)
+bounds-vectors-i c = omega (arith, num-most c.args.motion.call.mode c.requires.in_grid.0.mode, c.requires.in_grid.1, c.requires.vectors_len.0)
 
 pub bounds-vectors-i-2 : goal.bounds-vectors-i-2
-bounds-vectors-i-2 c = simp length-set (omega (arith, few c, c.requires.vectors_len.0))
+bounds-vectors-i-2 c = simp length-set (omega (arith, num-most c.args.motion.call.mode c.requires.in_grid.0.mode, c.requires.in_grid.1, c.requires.vectors_len.0))
 
 pub overflow_add-result : goal.overflow_add-result
 overflow_add-result c = omega (arith, c.from.ensures, counts c.move_component-mx.result.clipped, value-most c.move_component-mx.result.clipped, c.requires.in_grid.2)
@@ -50,17 +39,13 @@ returns c m t =
     let a = c.args in
     let mx = c.move_component-mx in
     let my = c.move_component-my in
-    let st = c.store_partition_in in
-    moved_at a.motion a.i c.requires.in_grid.0 c.requires.in_grid.1 c.partition_offset_x-cx.ensures c.partition_offset_y-cy.ensures c.partition_width-wide.ensures c.partition_height-high.ensures
-    a.dx.0 a.dy.0 m t c.predict_mv-from.ensures
-    (field-read mx.result.value.0 (search rules) ∙ mx.ensures.value_value)
-    (field-read my.result.value.0 (search rules) ∙ my.ensures.value_value)
+    let st = c.store_partition in
+    moved_at a.motion a.i c.requires.in_grid.0 c.of_mode-part.result c.of_mode-part.ensures a.dx.0 a.dy.0 m t c.predict_mv-from.ensures
+    (record { x = mx.result.value; y = my.result.value }) mx.ensures.value_value my.ensures.value_value
     (c.from.ensures ∙ counts mx.result.clipped ∙ ap bit_value mx.ensures.clipped_value)
     (c.from-2.ensures ∙ counts my.result.clipped ∙ ap bit_value my.ensures.clipped_value)
-    st.ensures.near_after st.ensures.marked_after
-
-pub predict_mv-from-requires : goal.predict_mv-from-requires
-predict_mv-from-requires c = (c.requires.in_grid.0.within, part (goal.at.predict_mv-from-requires c).After-partition_offset_y-cy)
+    (field-read mx.result.value.0 (search rules)) (field-read my.result.value.0 (search rules))
+    st.ensures.vectors_after st.ensures.marks_after
 
 pub move_component-mx-requires : goal.move_component-mx-requires
 move_component-mx-requires c = (held (goal.at.move_component-mx-requires c).After-predict_mv-from).0
@@ -68,20 +53,17 @@ move_component-mx-requires c = (held (goal.at.move_component-mx-requires c).Afte
 pub move_component-my-requires : goal.move_component-my-requires
 move_component-my-requires c = (held (goal.at.move_component-my-requires c).After-predict_mv-from).1
 
-pub store_partition_in-requires : goal.store_partition_in-requires
-store_partition_in-requires c = part (goal.at.store_partition_in-requires c).After-partition_offset_y-cy
-
-pub overflow_mul-vx : goal.overflow_mul-vx
-overflow_mul-vx c = omega (arith, few c)
-
 pub offset_bounds-vectors-i : goal.offset_bounds-vectors-i
-offset_bounds-vectors-i c = omega (arith, few c)
-
-pub overflow_mul-vy : goal.overflow_mul-vy
-overflow_mul-vy c = omega (arith, few c)
-
-pub overflow_add-vy : goal.overflow_add-vy
-overflow_add-vy c = omega (arith, few c)
+offset_bounds-vectors-i c = omega (arith, num-most c.args.motion.call.mode c.requires.in_grid.0.mode, c.requires.in_grid.1)
 
 pub offset_bounds-vectors-i-2 : goal.offset_bounds-vectors-i-2
-offset_bounds-vectors-i-2 c = omega (arith, few c)
+offset_bounds-vectors-i-2 c = omega (arith, num-most c.args.motion.call.mode c.requires.in_grid.0.mode, c.requires.in_grid.1)
+
+pub overflow_mul-i : goal.overflow_mul-i
+overflow_mul-i c = omega (arith, num-most c.args.motion.call.mode c.requires.in_grid.0.mode, c.requires.in_grid.1)
+
+pub overflow_mul-i-2 : goal.overflow_mul-i-2
+overflow_mul-i-2 c = omega (arith, num-most c.args.motion.call.mode c.requires.in_grid.0.mode, c.requires.in_grid.1)
+
+pub overflow_add-i : goal.overflow_add-i
+overflow_add-i c = omega (arith, num-most c.args.motion.call.mode c.requires.in_grid.0.mode, c.requires.in_grid.1)

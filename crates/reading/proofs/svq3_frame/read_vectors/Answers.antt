@@ -14,15 +14,15 @@ use Rattle.reading.specs.Read.{at_first}
 use Rattle.reading.proofs.Steps.{begins, goes_on, stops, ends}
 use Rattle.reading.proofs.svq3_frame.read_vectors.Goals as goal
 
-pub load_neighbours-requires : goal.load_neighbours-requires
-load_neighbours-requires c = record { window = record { numbers = refl; cells = refl }; cols_bound = (c.requires.in_grid.0.within.wide, c.requires.in_grid.0.within.down, omega (arith, c.requires.mv_len.0, c.requires.mv_len.1), macroblock-cells c.requires.in_grid.0.within c.requires.mv_len.1) }
+pub load-requires : goal.load-requires
+load-requires c = (c.requires.in_grid.0.within.wide, c.requires.in_grid.0.within.down, omega (arith, c.requires.mv_len.0, c.requires.mv_len.1), macroblock-cells c.requires.in_grid.0.within c.requires.mv_len.1)
 
 pub loop-i-init : goal.loop-i-init
 unfolding at_first
 loop-i-init c =
     let a = c.args in
     let f = lent_field a.motion.grid.cols a.motion.grid.rows a.mv.now a.marks.now in
-    (ap length c.requires.mv_len.2 ∙ length-no_vectors, (at_first f, begins a.motion c.num_motion_vectors-n.result (at_first f) (bit_list a.bits.now) a.at, record { count = refl; stored = c.requires.mv_len.2; follows = follows-start c.requires.in_grid.0.within c.requires.mv_len.0 c.requires.mv_len.1 c.load_neighbours.ensures (partition_width a.motion.call.mode / 4) (partition_height a.motion.call.mode / 4) }))
+    (ap length c.requires.mv_len.2 ∙ length-no_vectors, (at_first f, begins a.motion c.num_motion_vectors-n.result (at_first f) (bit_list a.bits.now) a.at, record { count = refl; stored = c.requires.mv_len.2; follows = follows-start c.requires.in_grid.0.within c.requires.mv_len.0 c.requires.mv_len.1 c.load.ensures (partition_width a.motion.call.mode / 4) (partition_height a.motion.call.mode / 4) }))
 
 pub read_partition-requires : goal.read_partition-requires
 unfolding at_first

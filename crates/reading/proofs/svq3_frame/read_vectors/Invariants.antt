@@ -10,4 +10,4 @@ use Rattle.reading.proofs.svq3_frame.read_vectors.Given as goal
 
 abbrev pub invariant-loop-i : goal.invariant-loop-i
 invariant-loop-i l =
-    (length l.vectors ≡ 32) × ((m : Moving) × Going l.motion l.n (at_first (lent_field l.motion.grid.cols l.motion.grid.rows l.mv l.marks)) (bit_list l.bits) l.at l.i l.p m × Holds m l.motion l.clipped l.vectors l.near l.marked)
+    (length l.vectors ≡ 32) × ((m : Moving) × Going l.motion l.n (at_first (lent_field l.motion.grid.cols l.motion.grid.rows l.mv l.marks)) (bit_list l.bits) l.at l.i l.p m × Holds m l.motion l.clipped l.vectors l.near)
