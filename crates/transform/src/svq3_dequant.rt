@@ -66,7 +66,7 @@ fn scale_luma_block_by_quantiser(levels: &[i32], scale: Scale) -> [i32; 16]
     array::from_fn(|n| scale_level(levels[n], scale))
 }
 
-// Four numbers weighed by a row of the transform's matrix.
+// Four numbers by four coefficients. Any coefficients of 8 bits: that each step fits does not depend on the matrix.
 fn apply_luma_transform_row(p: i8, q: i8, r: i8, s: i8, a: i32, b: i32, c: i32, d: i32) -> i32
     ensures { result ≡ dot p q r s a b c d }
 {
@@ -127,6 +127,7 @@ pub fn dequantize_transform_luma_block_with_dc(levels: &[i32], scale: Scale, dc:
     finish_block(&z, dc)
 }
 
+// `sat_i32` is the one place where a wide number is held and cast: a `clamp` here would repeat both, and the bounds.
 fn halve(v: i64) -> i32
     ensures { result ≡ sat_half v }
 {
