@@ -1,23 +1,22 @@
 -- Laws of this crate's definitions.
 -- Assumes nothing.
 use mathlib.Core.Path.{◌≡◌, refl, ap, ◌∙◌}
-use mathlib.Core.Bool.{true, false}
 use mathlib.Core.List.{List, [], ◌∷◌}
 use Prim.Native.Nat.{ℕ, zero, suc, ◌+◌, ◌*◌, ◌≤◌, ◌<◌}
 use native.Mathlib.Nat.{zero-add, zero-mul}
 use native.Mathlib.Omega.{arith}
 use lib.Dec.{lit<}
 use lib.IntN.{ℤ, pos, negsuc, neg_ℤ, ◌+ℤ◌, ◌*ℤ◌}
-use lib.Signed.{lt_z, mag}
-use lib.ListN.{set, get_or}
-use Rattle.ints.specs.Z.{when◌then◌else◌, min_z, clamp_z, sat_z, clip1_z}
+use lib.Signed.{mag}
+use lib.ListN.{get_or}
+use Rattle.ints.specs.Z.{when◌then◌else◌, clamp_z, sat_z, clip1_z}
 use mir.Syntax.{w8}
 use Rattle.transform.specs.declared.svq3_dequant.TheConstants.{MATRIX}
 use Rattle.ints.proofs.Fits.{read, within-clamp, within-lit, clamp-ind}
-use Rattle.ints.proofs.Linear.{z-rules, add-z, neg-z, min-z, clip1-z, mag-z}
+use Rattle.ints.proofs.Linear.{z-rules, add-z, neg-z, clip1-z, mag-z}
 use Rattle.picture.specs.Picture.{seen}
 use Rattle.picture.specs.InnerRows.{row, rows}
-use Rattle.picture.proofs.Laws.{more, row_more, row-values, rows_more, rows_other, painted-values}
+use Rattle.picture.proofs.Laws.{more, row-values, rows_more, rows_other, painted-values}
 use Rattle.transform.specs.Residual.{placed, listed, scaled, sum_of, weighed, rows_of, columns_of, rounded, residual}
 use Rattle.transform.specs.InnerResidual.{no_levels}
 use Rattle.transform.specs.Added.{reconstructed, added}
@@ -51,10 +50,6 @@ weighed-dot k h a b c d =
     (rw (minus 16 b, minus 6 d) refl)
     k h
 
--- a turn of a loop that fills an array from place 0 on
-pub fill_more : {A : Type 0} {l : List A} (l₀ : List A) (v : ℕ → A) (n : ℕ) {x : A} → l ≡ row l₀ 0 v n → x ≡ v n → set l n x ≡ row l₀ 0 v (n + 1)
-fill_more l₀ v n e f = rw (zero-add n) at (row_more l₀ 0 v n e f)
-
 -- the rows turned, twice: rows, then columns
 abbrev pub pass : List ℤ → List ℤ
 pass l = listed (turned (rows_of (placed l 0)))
@@ -64,13 +59,6 @@ pub two-passes : (scale : ℕ) (dc : ℤ) (levels : ℕ → ℕ → ℤ) {x y z 
 unfolding listed turned rows_of columns_of placed residual shortened finished
 two-passes scale dc levels e f g h =
     h ∙ ap (λ l. listed (shortened (finished dc (placed l 0)))) (g ∙ ap pass (f ∙ ap pass e))
-
--- ---- held in 0 to 255: at most 255, and not below 0
-pub clip-low : (z : ℤ) → lt_z (min_z z (pos 255)) (pos 0) ≡ true → 0 ≡ clip1_z z
-clip-low z e = omega (arith, z-rules, min-z z (pos 255), clip1-z z, mag-z z)
-
-pub clip-here : (z : ℤ) → lt_z (min_z z (pos 255)) (pos 0) ≡ false → min_z z (pos 255) ≡ pos (clip1_z z)
-clip-here z e = omega (arith, z-rules, min-z z (pos 255), clip1-z z, mag-z z)
 
 -- ---- a turn of the loop over the rows of a block: what it reads, no turn before it wrote
 pub row-added : (s x y j : ℕ) (plane₀ : List ℕ) (residual : List ℤ) {plane plane' : List ℕ} → x + 4 ≤ s
