@@ -1,25 +1,34 @@
 -- Laws of this crate's definitions.
 -- Assumes nothing.
 use mathlib.Core.Path.{◌≡◌, refl, ap, ◌∙◌}
-use mathlib.Core.Bool.{true, false}
 use mathlib.Core.List.{List, [], ◌∷◌}
 use Prim.Native.Nat.{ℕ, zero, suc, ◌+◌, ◌*◌, ◌≤◌, ◌<◌}
 use native.Mathlib.Nat.{zero-add, zero-mul}
 use native.Mathlib.Omega.{arith}
 use lib.Dec.{lit<}
 use lib.IntN.{ℤ, pos, negsuc, neg_ℤ, ◌+ℤ◌, ◌*ℤ◌}
-use lib.Signed.{lt_z, mag}
-use lib.ListN.{set, get_or}
-use Rattle.ints.specs.Z.{when◌then◌else◌, min_z, clamp_z, sat_z, clip1_z}
-use Rattle.ints.proofs.Fits.{within-clamp, within-lit, clamp-ind}
-use Rattle.ints.proofs.Linear.{z-rules, add-z, neg-z, min-z, clip1-z, mag-z}
+use lib.Signed.{mag}
+use lib.ListN.{get_or}
+use Rattle.ints.specs.Z.{when◌then◌else◌, clamp_z, sat_z, clip1_z}
+use mir.Syntax.{w8}
+use Rattle.transform.specs.declared.svq3_dequant.TheConstants.{MATRIX}
+use Rattle.ints.proofs.Fits.{read, within-clamp, within-lit, clamp-ind}
+use Rattle.ints.proofs.Linear.{z-rules, add-z, neg-z, clip1-z, mag-z}
 use Rattle.picture.specs.Picture.{seen}
 use Rattle.picture.specs.InnerRows.{row, rows}
-use Rattle.picture.proofs.Laws.{more, row_more, row-values, rows_more, rows_other, painted-values}
+use Rattle.picture.proofs.Laws.{more, row-values, rows_more, rows_other, painted-values}
 use Rattle.transform.specs.Residual.{placed, listed, scaled, sum_of, weighed, rows_of, columns_of, rounded, residual}
 use Rattle.transform.specs.InnerResidual.{no_levels}
 use Rattle.transform.specs.Added.{reconstructed, added}
 use Rattle.transform.specs.InnerArrays.{turned, dot, short, shortened, finished, Short, reconstructed_at}
+
+-- a number below 4, by cases
+pub below-4 : (P : ℕ → Type 0) → P 0 → P 1 → P 2 → P 3 → (n : ℕ) → n < 4 → P n
+below-4 P a b c d zero h = a
+below-4 P a b c d (suc zero) h = b
+below-4 P a b c d (suc (suc zero)) h = c
+below-4 P a b c d (suc (suc (suc zero))) h = d
+below-4 P a b c d (suc (suc (suc (suc n)))) h = absurd (omega arith)
 
 -- ---- the matrix, by coefficients
 -- a negative one
@@ -27,15 +36,19 @@ minus : (n : ℕ) (z : ℤ) → negsuc n *ℤ z ≡ neg_ℤ (pos (suc n) *ℤ z)
 minus n (pos a) = refl
 minus n (negsuc a) = omega (arith, z-rules, neg-z (neg_ℤ (pos (suc n * suc a))), neg-z (pos (suc n * suc a)))
 
--- by the coefficients of each row of the matrix
-pub weighed-dot : (a b c d : ℤ) → (dot (pos 13) (pos 17) (pos 13) (pos 7) a b c d ≡ weighed 0 a b c d) × (dot (pos 13) (pos 7) (negsuc 12) (negsuc 16) a b c d ≡ weighed 1 a b c d)
-    × (dot (pos 13) (negsuc 6) (negsuc 12) (pos 17) a b c d ≡ weighed 2 a b c d) × (dot (pos 13) (negsuc 16) (pos 13) (negsuc 6) a b c d ≡ weighed 3 a b c d)
-unfolding dot weighed sum_of
-weighed-dot a b c d = (refl, rw (minus 12 c, minus 16 d) refl, rw (minus 6 b, minus 12 c) refl, rw (minus 16 b, minus 6 d) refl)
+-- as the code reads them from the table
+abbrev pub coefficient : ℕ → ℕ → ℤ
+coefficient k j = read w8 (get_or (get_or MATRIX k []) j (pos 0))
 
--- a turn of a loop that fills an array from place 0 on
-pub fill_more : {A : Type 0} {l : List A} (l₀ : List A) (v : ℕ → A) (n : ℕ) {x : A} → l ≡ row l₀ 0 v n → x ≡ v n → set l n x ≡ row l₀ 0 v (n + 1)
-fill_more l₀ v n e f = rw (zero-add n) at (row_more l₀ 0 v n e f)
+pub weighed-dot : (k : ℕ) → k < 4 → (a b c d : ℤ) → dot (coefficient k 0) (coefficient k 1) (coefficient k 2) (coefficient k 3) a b c d ≡ weighed k a b c d
+unfolding dot weighed sum_of
+weighed-dot k h a b c d =
+    below-4 (λ k. dot (coefficient k 0) (coefficient k 1) (coefficient k 2) (coefficient k 3) a b c d ≡ weighed k a b c d)
+    refl
+    (rw (minus 12 c, minus 16 d) refl)
+    (rw (minus 6 b, minus 12 c) refl)
+    (rw (minus 16 b, minus 6 d) refl)
+    k h
 
 -- the rows turned, twice: rows, then columns
 abbrev pub pass : List ℤ → List ℤ
@@ -46,13 +59,6 @@ pub two-passes : (scale : ℕ) (dc : ℤ) (levels : ℕ → ℕ → ℤ) {x y z 
 unfolding listed turned rows_of columns_of placed residual shortened finished
 two-passes scale dc levels e f g h =
     h ∙ ap (λ l. listed (shortened (finished dc (placed l 0)))) (g ∙ ap pass (f ∙ ap pass e))
-
--- ---- held in 0 to 255: at most 255, and not below 0
-pub clip-low : (z : ℤ) → lt_z (min_z z (pos 255)) (pos 0) ≡ true → 0 ≡ clip1_z z
-clip-low z e = omega (arith, z-rules, min-z z (pos 255), clip1-z z, mag-z z)
-
-pub clip-here : (z : ℤ) → lt_z (min_z z (pos 255)) (pos 0) ≡ false → min_z z (pos 255) ≡ pos (clip1_z z)
-clip-here z e = omega (arith, z-rules, min-z z (pos 255), clip1-z z, mag-z z)
 
 -- ---- a turn of the loop over the rows of a block: what it reads, no turn before it wrote
 pub row-added : (s x y j : ℕ) (plane₀ : List ℕ) (residual : List ℤ) {plane plane' : List ℕ} → x + 4 ≤ s
@@ -83,14 +89,6 @@ clip-short a z h =
     (λ e. omega (arith, z-rules, clip1-z (pos a +ℤ negsuc 4095), clip1-z (pos a +ℤ z), add-z (pos a) (negsuc 4095), add-z (pos a) z, mag-z (pos a +ℤ z), mag-z (pos a +ℤ negsuc 4095)))
     (λ e f. omega (arith, z-rules, clip1-z (pos a +ℤ pos 4095), clip1-z (pos a +ℤ z), add-z (pos a) (pos 4095), add-z (pos a) z))
     (λ e f. refl)
-
--- a number below 4, by cases
-pub below-4 : (P : ℕ → Type 0) → P 0 → P 1 → P 2 → P 3 → (n : ℕ) → n < 4 → P n
-below-4 P a b c d zero h = a
-below-4 P a b c d (suc zero) h = b
-below-4 P a b c d (suc (suc zero)) h = c
-below-4 P a b c d (suc (suc (suc zero))) h = d
-below-4 P a b c d (suc (suc (suc (suc n)))) h = absurd (omega arith)
 
 -- a block read back from its array
 pub placed-listed : (f : ℕ → ℕ → ℤ) (r c : ℕ) → r < 4 → c < 4 → placed (listed f) 0 r c ≡ f r c

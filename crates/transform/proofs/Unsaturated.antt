@@ -132,7 +132,6 @@ both true b e = (refl, e)
 both false b e = absurd (false≢true e)
 
 all-within-at : (m : ℕ) (l : List ℤ) → all_within m l ≡ true → (k : ℕ) → nat_abs (get_or l k (pos 0)) ≤ m
-unfolding all_within
 all-within-at m [] e k = omega arith
 all-within-at m (x ∷ l) e zero = leb-true (nat_abs x) m (both _ _ e).0
 all-within-at m (x ∷ l) e (suc k) = all-within-at m l (both _ _ e).1 k

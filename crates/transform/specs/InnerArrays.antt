@@ -3,7 +3,7 @@
 use Rattle.std.specs.Prelude.{List, ℕ, ◌+◌, ◌*◌, ◌<◌, ℤ, pos, negsuc, ◌+ℤ◌, ◌*ℤ◌, get_or}
 use Rattle.std.specs.Int.Signed.{mag}
 use Rattle.ints.specs.Z.{clamp_z, sat_z, clip1_z}
-use Rattle.transform.specs.Residual.{rounded}
+use Rattle.transform.specs.Residual.{weighed, rounded}
 
 -- columns for rows
 unfoldable pub turned : (ℕ → ℕ → ℤ) → ℕ → ℕ → ℤ
@@ -21,9 +21,9 @@ shortened x r c = short (x r c)
 unfoldable pub dot : ℤ → ℤ → ℤ → ℤ → ℤ → ℤ → ℤ → ℤ → ℤ
 dot p q r s a b c d = sat_z (p *ℤ a +ℤ q *ℤ b +ℤ r *ℤ c +ℤ s *ℤ d)
 
--- the same of the four numbers of row i
-unfoldable pub dot_row : ℤ → ℤ → ℤ → ℤ → List ℤ → ℕ → ℤ
-dot_row p q r s l i = dot p q r s (get_or l (4 * i) (pos 0)) (get_or l (4 * i + 1) (pos 0)) (get_or l (4 * i + 2) (pos 0)) (get_or l (4 * i + 3) (pos 0))
+-- the four numbers of row i by row k of the matrix
+unfoldable pub weighed_row : ℕ → List ℤ → ℕ → ℤ
+weighed_row k l i = weighed k (get_or l (4 * i) (pos 0)) (get_or l (4 * i + 1) (pos 0)) (get_or l (4 * i + 2) (pos 0)) (get_or l (4 * i + 3) (pos 0))
 
 -- each number of a block, rounded with the block's DC
 unfoldable pub finished : ℤ → (ℕ → ℕ → ℤ) → ℕ → ℕ → ℤ

@@ -16,7 +16,7 @@ unfoldable pub sums_of : ℤ → ℤ → ℤ → ℤ → List ℤ
 sums_of a b c d = sum_of 0 a b c d ∷ sum_of 1 a b c d ∷ sum_of 2 a b c d ∷ sum_of 3 a b c d ∷ []
 
 -- each number lies within -m to m
-unfoldable pub all_within : ℕ → List ℤ → Bool
+abbrev pub all_within : ℕ → List ℤ → Bool
 all_within m l = list_all (λ v. leb (nat_abs v) m) l
 
 -- the number at place n times the entry

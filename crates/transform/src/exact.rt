@@ -1,4 +1,5 @@
-// The residuals of four blocks whose levels are small: no step saturates, and all fits 32 bits.
+// The residuals of four blocks whose levels are small: no step saturates, and all fits 32 bits. `svq3_dequant` has the same in 64 bits,
+// for any levels: a macroblock's residual takes 5.5 times as long there.
 ghost use Rattle.std.specs.Prelude.{◌≡◌, ◌&&◌, ℕ, ◌+◌, ◌*◌, ◌/◌, ◌<◌, ◌≤◌, [], pos, nat_abs, length, take, get_or};
 ghost use Rattle.transform.specs.Residual.{rounded};
 ghost use Rattle.transform.specs.InnerPasses.{
@@ -28,7 +29,8 @@ fn sums(a: i32, b: i32, c: i32, d: i32) -> [i32; 4]
     [e + g, f + h, f - h, e - g]
 }
 
-// Whether each number lies within -most to most.
+// Whether each number lies within -most to most. No `all`, which stops at the first that does not: the compiler tests several at once
+// here, and a heavy macroblock took 11 % more instructions with it.
 fn all_within(l: &[i32], most: u32) -> bool
     ensures { result ≡ all_within most l.now }
 {
@@ -67,7 +69,7 @@ fn row(levels: &[i32], scale: Scale) -> [i32; 4]
     sums(a, b, c, d)
 }
 
-// The sixteen rows of four blocks, transformed. A loop: a closure for `from_fn` would have to repeat in its clauses what `row` requires.
+// The sixteen rows of four blocks, transformed. A closure for `from_fn` would have to repeat in its clauses what `row` requires.
 pub fn rows(levels: &[i32], scale: Scale) -> [[i32; 4]; 16]
     requires { Exact scale.by levels.now }
     ensures { Rows scale.by levels.now 16 result }
@@ -79,7 +81,7 @@ pub fn rows(levels: &[i32], scale: Scale) -> [[i32; 4]; 16]
     y
 }
 
-// A sum with the DC, rounded.
+// A sum with the DC, rounded: `finish`, in 32 bits.
 fn round(t: i32, dc: i32) -> i16
     requires { (nat_abs t ≤ 2000000000) × (nat_abs dc ≤ 800000) }
     ensures { result ≡ rounded t dc }
@@ -96,7 +98,8 @@ fn column(rows: &[[i32; 4]], c: usize, dc: i32) -> [i16; 4]
     [round(p, dc), round(q, dc), round(r, dc), round(s, dc)]
 }
 
-// The residuals of the block of the first four rows.
+// The residuals of the block of the first four rows. Columns are stored as they come: by transposition the compiler makes scalar code
+// of one pass (docs/SPEED.md).
 pub fn columns(rows: &[[i32; 4]], dc: i32) -> [i16; 16]
     requires { (4 ≤ length rows.now) × (nat_abs dc ≤ 800000) × ((k c : ℕ) → nat_abs (get_or (get_or rows.now k []) c (pos 0)) ≤ 40000000) }
     ensures { Columns rows.now dc 4 result }

@@ -1,8 +1,8 @@
 // Four blocks at once, in a square of 8 × 8: the luma quadrant that a pattern bit codes, or a chroma plane of a macroblock.
 ghost use Rattle.std.specs.Prelude.{◌≡◌, ℕ, ◌<◌, ◌≤◌, ◌*◌, pos, nat_abs, length, get_or};
-ghost use Rattle.transform.specs.Residual.{placed, residual};
+ghost use Rattle.transform.specs.Residual.{residual};
 ghost use Rattle.transform.specs.InnerResidual.{no_levels, luma_residual, chroma_residual};
-ghost use Rattle.transform.specs.InnerFour.{SquareIn, added_four};
+ghost use Rattle.transform.specs.InnerFour.{SquareIn, added_four, four_added};
 ghost use Rattle.transform.specs.InnerPasses.{Exact};
 
 use crate::svq3_dequant::{chroma_coeff, dequant_coeff};
@@ -10,11 +10,13 @@ use crate::svq3_pred::reconstruct_4x4;
 use crate::svq3_recon::{add_block, add_chroma_dc_block};
 use crate::{Scale, Square, exact};
 
+// Each function goes over the four blocks itself: a loop is two lines, and one function that takes a closure for them is no shorter.
+
 // Four blocks whose levels and DC are small.
 fn add_exact(plane: &mut [u8], s: Square, levels: &[i32], scale: Scale, dc: &[i32; 4])
     requires inside { SquareIn s 8 (length plane.old) }
     requires exact { Exact scale.by levels.now × ((b : ℕ) → b < 4 → nat_abs (get_or dc.now b (pos 0)) ≤ 800000) }
-    ensures { plane.new ≡ added_four plane.old s.stride s.x s.y (λ b. residual scale.by (get_or dc.now b (pos 0)) (placed levels.now (16 * b))) }
+    ensures { plane.new ≡ four_added plane.old s levels.now scale.by dc.now }
 {
     let rows = exact::rows(levels, scale);
     for (b, dc) in dc.iter().enumerate() {
@@ -27,7 +29,7 @@ fn add_exact(plane: &mut [u8], s: Square, levels: &[i32], scale: Scale, dc: &[i3
 fn add_each(plane: &mut [u8], s: Square, levels: &[i32], scale: Scale, dc: &[i32; 4])
     requires inside { SquareIn s 8 (length plane.old) }
     requires levels { 64 ≤ length levels.now }
-    ensures { plane.new ≡ added_four plane.old s.stride s.x s.y (λ b. residual scale.by (get_or dc.now b (pos 0)) (placed levels.now (16 * b))) }
+    ensures { plane.new ≡ four_added plane.old s levels.now scale.by dc.now }
 {
     for (b, dc) in dc.iter().enumerate() {
         add_block(plane, s.block(b), &levels[16 * b..], scale, *dc);
@@ -38,7 +40,7 @@ fn add_each(plane: &mut [u8], s: Square, levels: &[i32], scale: Scale, dc: &[i32
 fn add_four(plane: &mut [u8], s: Square, levels: &[i32], scale: Scale, dc: &[i32; 4])
     requires inside { SquareIn s 8 (length plane.old) }
     requires levels { (64 ≤ length levels.now) × (0 < scale.by) }
-    ensures { plane.new ≡ added_four plane.old s.stride s.x s.y (λ b. residual scale.by (get_or dc.now b (pos 0)) (placed levels.now (16 * b))) }
+    ensures { plane.new ≡ four_added plane.old s levels.now scale.by dc.now }
 {
     if exact::all_small(levels, scale, dc) {
         add_exact(plane, s, levels, scale, dc);

@@ -4,7 +4,7 @@ ghost use Rattle.ints.specs.Z.{sat_z};
 ghost use Rattle.transform.specs.Tables.{dequant_coeff, chroma_quantiser_index, chroma_coeff};
 ghost use Rattle.transform.specs.Residual.{placed, listed, scaled, rows_of, rounded, residual};
 ghost use Rattle.transform.specs.ChromaDc.{sat_half, secondary, chroma_dc};
-ghost use Rattle.transform.specs.InnerArrays.{turned, dot, dot_row, short, shortened, finished};
+ghost use Rattle.transform.specs.InnerArrays.{turned, dot, weighed_row, short, shortened, finished};
 
 use crate::Scale;
 use std::array;
@@ -18,6 +18,13 @@ const DEQUANT_COEFF_TABLE: [u32; 32] = [
 const CHROMA_QUANTISER_INDEX: [u32; 32] = [
     0, 1, 2, 3, 4, 5, 6, 7, 8, 9, 10, 11, 12, 13, 14, 15, 16, 17, 17, 18, 19, 20, 20, 21, 22, 22,
     23, 23, 24, 24, 25, 25,
+];
+
+const MATRIX: [[i8; 4]; 4] = [
+    [13, 17, 13, 7],
+    [13, 7, -13, -17],
+    [13, -7, -13, 17],
+    [13, -17, 13, -7],
 ];
 
 pub fn dequant_coeff(q: u32) -> Scale
@@ -59,7 +66,7 @@ fn scale_luma_block_by_quantiser(levels: &[i32], scale: Scale) -> [i32; 16]
     array::from_fn(|n| scale_level(levels[n], scale))
 }
 
-// Four numbers weighed by a row of the transform's matrix.
+// Four numbers by four coefficients. Any coefficients of 8 bits: that each step fits does not depend on the matrix.
 fn apply_luma_transform_row(p: i8, q: i8, r: i8, s: i8, a: i32, b: i32, c: i32, d: i32) -> i32
     ensures { result ≡ dot p q r s a b c d }
 {
@@ -71,40 +78,29 @@ fn apply_luma_transform_row(p: i8, q: i8, r: i8, s: i8, a: i32, b: i32, c: i32, 
     )
 }
 
-// The same of row i of a block.
-fn weigh_row(p: i8, q: i8, r: i8, s: i8, x: &[i32; 16], i: usize) -> i32
-    requires { i < 4 }
-    ensures { result ≡ dot_row p q r s x.now i }
+// Row i of a block by row k of the matrix.
+fn weigh_row(k: usize, x: &[i32; 16], i: usize) -> i32
+    requires { (k < 4) × (i < 4) }
+    ensures { result ≡ weighed_row k x.now i }
 {
-    let a = x[4 * i];
-    let b = x[4 * i + 1];
-    let c = x[4 * i + 2];
-    let d = x[4 * i + 3];
-    apply_luma_transform_row(p, q, r, s, a, b, c, d)
+    let [p, q, r, s] = MATRIX[k];
+    apply_luma_transform_row(
+        p,
+        q,
+        r,
+        s,
+        x[4 * i],
+        x[4 * i + 1],
+        x[4 * i + 2],
+        x[4 * i + 3],
+    )
 }
 
 // Each row of a block transformed, and the block turned over: a second pass goes over the columns, and turns it back.
 fn apply_luma_transform_rows(x: &[i32; 16]) -> [i32; 16]
     ensures { result ≡ listed (turned (rows_of (placed x.now 0))) }
 {
-    [
-        weigh_row(13, 17, 13, 7, x, 0),
-        weigh_row(13, 17, 13, 7, x, 1),
-        weigh_row(13, 17, 13, 7, x, 2),
-        weigh_row(13, 17, 13, 7, x, 3),
-        weigh_row(13, 7, -13, -17, x, 0),
-        weigh_row(13, 7, -13, -17, x, 1),
-        weigh_row(13, 7, -13, -17, x, 2),
-        weigh_row(13, 7, -13, -17, x, 3),
-        weigh_row(13, -7, -13, 17, x, 0),
-        weigh_row(13, -7, -13, 17, x, 1),
-        weigh_row(13, -7, -13, 17, x, 2),
-        weigh_row(13, -7, -13, 17, x, 3),
-        weigh_row(13, -17, 13, -7, x, 0),
-        weigh_row(13, -17, 13, -7, x, 1),
-        weigh_row(13, -17, 13, -7, x, 2),
-        weigh_row(13, -17, 13, -7, x, 3),
-    ]
+    array::from_fn(|n| weigh_row(n / 4, x, n % 4))
 }
 
 // What the transform gave, with its DC, rounded and held in 16 bits.
@@ -131,6 +127,7 @@ pub fn dequantize_transform_luma_block_with_dc(levels: &[i32], scale: Scale, dc:
     finish_block(&z, dc)
 }
 
+// `sat_i32` is the one place where a wide number is held and cast: a `clamp` here would repeat both, and the bounds.
 fn halve(v: i64) -> i32
     ensures { result ≡ sat_half v }
 {

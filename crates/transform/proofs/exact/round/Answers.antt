@@ -5,7 +5,7 @@ use lib.Signed.{shr_z}
 use mir.Syntax.{w16, w32}
 use mir.Val.{SFits}
 use mir.Facts.{to_z-of_z}
-use Rattle.ints.proofs.Fits.{signed, read, fits, within-mag, shr-floor, Within}
+use Rattle.ints.proofs.Fits.{read, fits, within-mag, shr-floor, Within}
 use Rattle.ints.proofs.Same.{reads}
 use Rattle.transform.specs.Residual.{rounded}
 use Rattle.transform.proofs.Sums.{with-dc, with-rounding, rounded-within}
@@ -41,11 +41,6 @@ shifted c = ap (λ z. shr_z z 1048576) (to_z-of_z (fits-2 c) ∙ rounding-is c) 
 
 result : (c : Start) → r (shr_z (r (r (r c.args.t +ℤ r (pos 169 *ℤ r c.args.dc)) +ℤ pos 524288)) 1048576) ≡ rounded c.args.t c.args.dc
 result c = ap r (shifted c) ∙ to_z-of_z {w = w32} (fits (within-mag 4096 _ _ (small c).within tt))
-
-pub overflow_mul-result : goal.overflow_mul-result
-overflow_mul-result c =
-    let d = c.requires.1 in
-    search signed depth 20
 
 pub overflow_cast-result : goal.overflow_cast-result
 overflow_cast-result c = subst (SFits w16) (sym (result c)) (fits (within-mag 4096 _ _ (small c).within tt))

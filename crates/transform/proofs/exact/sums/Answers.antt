@@ -1,58 +1,7 @@
 -- Each step fits 32 bits, and the parts make the sums.
-use Rattle.ints.proofs.Fits.{signed}
 use Rattle.ints.proofs.Same.{reads}
 use Rattle.transform.proofs.Sums.{parts-fit, four-sums}
 use Rattle.transform.proofs.exact.sums.Goals as goal
-
-pub overflow_add-e : goal.overflow_add-e
-overflow_add-e c =
-    let record { first = p; second = q; third = r; fourth = s } = c.requires in
-    search signed depth 20
-
-pub overflow_mul-e : goal.overflow_mul-e
-overflow_mul-e c =
-    let record { first = p; second = q; third = r; fourth = s } = c.requires in
-    search signed depth 20
-
-pub overflow_sub-f : goal.overflow_sub-f
-overflow_sub-f c =
-    let record { first = p; second = q; third = r; fourth = s } = c.requires in
-    search signed depth 20
-
-pub overflow_mul-f : goal.overflow_mul-f
-overflow_mul-f c =
-    let record { first = p; second = q; third = r; fourth = s } = c.requires in
-    search signed depth 20
-
-pub overflow_mul-g : goal.overflow_mul-g
-overflow_mul-g c =
-    let record { first = p; second = q; third = r; fourth = s } = c.requires in
-    search signed depth 20
-
-pub overflow_mul-g-2 : goal.overflow_mul-g-2
-overflow_mul-g-2 c =
-    let record { first = p; second = q; third = r; fourth = s } = c.requires in
-    search signed depth 20
-
-pub overflow_add-g : goal.overflow_add-g
-overflow_add-g c =
-    let record { first = p; second = q; third = r; fourth = s } = c.requires in
-    search signed depth 20
-
-pub overflow_mul-h : goal.overflow_mul-h
-overflow_mul-h c =
-    let record { first = p; second = q; third = r; fourth = s } = c.requires in
-    search signed depth 20
-
-pub overflow_mul-h-2 : goal.overflow_mul-h-2
-overflow_mul-h-2 c =
-    let record { first = p; second = q; third = r; fourth = s } = c.requires in
-    search signed depth 20
-
-pub overflow_sub-h : goal.overflow_sub-h
-overflow_sub-h c =
-    let record { first = p; second = q; third = r; fourth = s } = c.requires in
-    search signed depth 20
 
 -- each sum, as the machine has it, is made of two parts
 pub overflow_add-result : goal.overflow_add-result

@@ -12,47 +12,11 @@ returns c =
     let record { p = p; q = q; r = r; s = s; a = a; b = b; c = c'; d = d } = c.ranges in
     back w32 c.sat_i32.type_inv (via sat_z c.sat_i32.ensures (search reads fits 20000 depth 30))
 
-pub overflow_cast-p : goal.overflow_cast-p
-overflow_cast-p c = search signed depth 20
-
-pub overflow_cast-a : goal.overflow_cast-a
-overflow_cast-a c = search signed depth 20
-
-pub overflow_mul-p : goal.overflow_mul-p
-overflow_mul-p c = search signed depth 20
-
-pub overflow_cast-q : goal.overflow_cast-q
-overflow_cast-q c = search signed depth 20
-
-pub overflow_cast-b : goal.overflow_cast-b
-overflow_cast-b c = search signed depth 20
-
-pub overflow_mul-q : goal.overflow_mul-q
-overflow_mul-q c = search signed depth 20
-
 pub overflow_add-p : goal.overflow_add-p
 overflow_add-p c = search signed depth 20
 
-pub overflow_cast-r : goal.overflow_cast-r
-overflow_cast-r c = search signed depth 20
-
-pub overflow_cast-c : goal.overflow_cast-c
-overflow_cast-c c = search signed depth 20
-
-pub overflow_mul-r : goal.overflow_mul-r
-overflow_mul-r c = search signed depth 20
-
 pub overflow_add-p-2 : goal.overflow_add-p-2
 overflow_add-p-2 c = search signed depth 20
-
-pub overflow_cast-s : goal.overflow_cast-s
-overflow_cast-s c = search signed depth 20
-
-pub overflow_cast-d : goal.overflow_cast-d
-overflow_cast-d c = search signed depth 20
-
-pub overflow_mul-s : goal.overflow_mul-s
-overflow_mul-s c = search signed depth 20
 
 pub overflow_add-p-3 : goal.overflow_add-p-3
 overflow_add-p-3 c = search signed depth 20
