@@ -1,44 +1,31 @@
-// The compensated blocks, kinds 17 and 18.
+// The compensated blocks.
 use crate::Plane;
-use crate::bytes::{signed_at, wide};
+use crate::head::Compensated;
 use compensation::svq3_mc::{BlockAnswer, motion_compensate_block, motion_compensate_chroma_block};
 
-fn compensate(out: &mut [u8], samples: &[u8], plane: Plane, head: &[u8; 32]) -> BlockAnswer {
-    let w = wide(head[2]) as usize;
-    let h = wide(head[3]) as usize;
-    let x = signed_at(head, 8);
-    let y = signed_at(head, 12);
-    let vx = signed_at(head, 16);
-    let vy = signed_at(head, 20);
-    if head[0] == 17 {
-        motion_compensate_block(out, samples, plane.width, plane.height, x, y, w, h, vx, vy)
+fn compensate(out: &mut [u8], samples: &[u8], plane: &Plane, b: Compensated) -> BlockAnswer {
+    let width = plane.width;
+    let height = plane.height;
+    if b.chroma {
+        motion_compensate_chroma_block(out, samples, width, height, b.x, b.y, b.w, b.h, b.vx, b.vy)
     } else {
-        motion_compensate_chroma_block(out, samples, plane.width, plane.height, x, y, w, h, vx, vy)
-    }
-}
-
-fn same_block(
-    out: &mut [u8],
-    samples: &[u8],
-    plane: Plane,
-    head: &[u8; 32],
-    answered: &[u8],
-) -> bool {
-    match compensate(out, samples, plane, head) {
-        BlockAnswer::Done => check::same(out, answered),
-        BlockAnswer::Refused(_) => false,
+        motion_compensate_block(out, samples, width, height, b.x, b.y, b.w, b.h, b.vx, b.vy)
     }
 }
 
 // Whether the block is the one answered.
-pub fn agrees(head: &[u8; 32], samples: &[u8], plane: Plane, answered: &[u8]) -> bool {
-    let size = plane.size;
-    let n = answered.len();
+pub fn agrees(block: Compensated, plane: &Plane, answered: &[u8]) -> bool {
     let mut out = [0u8; 256];
-    if n <= 256 {
-        if size <= samples.len() {
-            return same_block(&mut out[..n], &samples[..size], plane, head, answered);
-        }
+    let out = match out.get_mut(..answered.len()) {
+        Some(out) => out,
+        None => return false,
+    };
+    let samples = match plane.samples.get(..plane.size) {
+        Some(samples) => samples,
+        None => return false,
+    };
+    match compensate(out, samples, plane, block) {
+        BlockAnswer::Done => *out == *answered,
+        BlockAnswer::Refused(_) => false,
     }
-    false
 }
