@@ -83,7 +83,7 @@ fn agrees(state: &mut State, reference: &mut Planes, record: Option<Record>) -> 
 }
 
 // The largest grid has six macroblocks; a slice may be lent longer than that. A record whose head is not whole differs.
-fn main(rt: HostRuntime) -> std::io::Result<()> {
+fn main(rt: HostRuntime) {
     let mut state = State::new();
     let mut reference = Planes::new();
     let mut counts = Counts::default();
@@ -94,5 +94,6 @@ fn main(rt: HostRuntime) -> std::io::Result<()> {
         let same = agrees(&mut state, &mut reference, record);
         counts.count(record, whole & same);
     }
-    println!(rt; "{counts}")
+    // Where the line cannot be written, it is missed by whoever compares what was printed.
+    let _ = println!(rt; "{counts}");
 }

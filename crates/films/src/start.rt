@@ -1,5 +1,5 @@
 // The state of a grid of at most six macroblocks, and its reference, as a list gives them.
-ghost use Rattle.std.specs.Prelude.{◌≡◌, ◌<◌};
+ghost use Rattle.std.specs.Prelude.{◌≡◌, ◌<◌, ◌≤◌};
 
 use lists::{read, take_numbers};
 use picture::{Block, Grid};
@@ -53,14 +53,15 @@ fn put_block<T: Copy>(to: &mut [T], given: &[T], b: Block)
     }
 }
 
-// Where a macroblock of w × h elements lies.
+// Where a macroblock of w × h elements lies. The grids of a list are small: ten bits of a column, a row or a width count.
 fn block_of(grid: Grid, call: Call, w: usize, h: usize) -> Block
+    requires { (w ≤ 16) × (h ≤ 16) }
     ensures { result.w ≡ w }
 {
     Block {
-        stride: w.saturating_mul(grid.cols),
-        x: w.saturating_mul(call.column as usize),
-        y: h.saturating_mul(call.row as usize),
+        stride: w * (grid.cols % 1024),
+        x: w * (call.column as usize % 1024),
+        y: h * (call.row as usize % 1024),
         w,
         h,
     }

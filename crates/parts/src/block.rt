@@ -16,13 +16,11 @@ fn compensate(out: &mut [u8], samples: &[u8], plane: &Plane, b: Compensated) -> 
 // Whether the block is the one answered.
 pub fn agrees(block: Compensated, plane: &Plane, answered: &[u8]) -> bool {
     let mut out = [0u8; 256];
-    let out = match out.get_mut(..answered.len()) {
-        Some(out) => out,
-        None => return false,
+    let Some(out) = out.get_mut(..answered.len()) else {
+        return false;
     };
-    let samples = match plane.samples.get(..plane.size) {
-        Some(samples) => samples,
-        None => return false,
+    let Some(samples) = plane.samples.get(..plane.size) else {
+        return false;
     };
     match compensate(out, samples, plane, block) {
         BlockAnswer::Done => *out == *answered,

@@ -65,13 +65,11 @@ fn agrees(head: Head, plane: &mut Plane) -> bool {
     }
     let mut given = [0u8; 480];
     let mut answered = [0u8; 256];
-    let given = match lists::read(&mut given, head.given) {
-        Some(given) => given,
-        None => return false,
+    let Some(given) = lists::read(&mut given, head.given) else {
+        return false;
     };
-    let answered = match lists::read(&mut answered, head.answered) {
-        Some(answered) => answered,
-        None => return false,
+    let Some(answered) = lists::read(&mut answered, head.answered) else {
+        return false;
     };
     match head.question {
         Some(
@@ -92,7 +90,7 @@ fn agrees(head: Head, plane: &mut Plane) -> bool {
     }
 }
 
-fn main(rt: HostRuntime) -> std::io::Result<()> {
+fn main(rt: HostRuntime) {
     let mut plane = Plane {
         width: 0,
         height: 0,
@@ -107,5 +105,6 @@ fn main(rt: HostRuntime) -> std::io::Result<()> {
         let same = agrees(head, &mut plane);
         counts.count(head.question, whole & same);
     }
-    println!(rt; "{counts}")
+    // Where the line cannot be written, it is missed by whoever compares what was printed.
+    let _ = println!(rt; "{counts}");
 }

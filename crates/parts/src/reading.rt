@@ -120,9 +120,8 @@ pub fn agrees(reader: Reader, at: usize, expected: Expected, bits: &[u8], answer
 {
     let mut numbers = [0i32; 64];
     take_numbers(&mut numbers, answered);
-    let values = match numbers.get(..answered.len() / 4) {
-        Some(values) => values,
-        None => return false,
+    let Some(values) = numbers.get(..answered.len() / 4) else {
+        return false;
     };
     match reader {
         Reader::UniversalCode => code_agrees(expected, bits, values, at),
