@@ -1,83 +1,70 @@
 // What a record asks for is read, with what it is to leave, and made in every form that there is of it.
-ghost use Rattle.std.specs.Prelude.{◌≤◌, length};
-
-use crate::bytes::{fill, short_at};
 use crate::decoded::read_back;
-use crate::lend;
+use crate::head::{Film, Work};
+use crate::lend::{Form, agrees, unwritten};
 use crate::replayed::check_agrees;
-use crate::slices::{copy, within};
-use crate::start::{take_end, take_transcript};
+use crate::start::{Planes, State, put};
+use lists::read;
 
-// The transcript that a replay is given is checked alone, too.
-fn checked(expected: &[u8], head: &[u8; 80]) -> bool
-    requires { 8192 ≤ length expected.now }
-{
-    let n = within(short_at(head, 58), 8192);
-    check_agrees(&expected[..n], head)
-}
-
-// A macroblock and a run by value and by the thin entry; a run's transcript is replayed.
+// A macroblock and a run by value and by the thin entry; a run's transcript is replayed, and a replay's checked alone.
 fn forms_agree(
-    start: &[u8],
-    end: &[u8],
-    reference: &[u8; 2400],
+    start: &State,
+    end: &State,
+    reference: &Planes,
     bits: &[u8],
     list: &[u8],
-    expected: &[u8],
-    head: &[u8; 80],
-) -> bool
-    requires { 8192 ≤ length expected.now }
-{
-    let kind = head[0];
-    let first = lend::agrees(
-        start, end, reference, bits, list, expected, head, kind, false,
-    );
-    if kind == 5 {
-        return first & checked(expected, head);
-    }
-    let thin = lend::agrees(
-        start, end, reference, bits, list, expected, head, kind, true,
-    );
-    if kind == 3 {
-        return first & thin & read_back(expected, head);
-    }
-    first & thin & lend::agrees(start, end, reference, bits, list, expected, head, 5, false)
-}
-
-// A macroblock's end is the next one's start; runs and replays begin where the list says.
-fn go_on(state: &mut [u8], end: &[u8], head: &[u8; 80]) {
-    if head[0] == 3 {
-        copy(state, end, 0);
-    }
-}
-
-fn compare(
-    state: &mut [u8],
-    reference: &[u8; 2400],
-    bits: &[u8],
-    list: &[u8],
-    head: &[u8; 80],
+    expected: &[u8; 8192],
+    film: &Film,
 ) -> bool {
-    let mut expected = [0u8; 8192];
-    let mut end = [0u8; 3300];
-    copy(&mut end, state, 0);
-    let written = take_transcript(&mut expected, head);
-    let whole = take_end(&mut end, head);
-    let same = forms_agree(state, &end, reference, bits, list, &expected, head);
-    go_on(state, &end, head);
-    written & whole & same
+    let made = |form: Form| agrees(start, end, reference, bits, list, expected, film, form);
+    match film.work {
+        Work::Macroblock(call) => {
+            made(Form::ByValue) & made(Form::Thin) & read_back(expected, film, call)
+        }
+        Work::Run { .. } => made(Form::ByValue) & made(Form::Thin) & made(Form::Replay),
+        Work::Replay { check } => made(Form::Replay) & check_agrees(expected, film, check),
+    }
 }
 
-// Kinds 3, 4 and 5: whether what follows the head does as the answer behind it says.
-pub fn agrees(state: &mut [u8], reference: &[u8; 2400], head: &[u8; 80]) -> bool {
+// The state that is to be left, where it is not the start. A refused macroblock leaves nothing of itself.
+fn take_end(end: &mut State, film: &Film) -> bool {
+    match film.work {
+        Work::Macroblock(call) => {
+            film.refusal.is_some() || end.take_macroblock(film.frame.grid, call)
+        }
+        _ => end.take(film.end % 256),
+    }
+}
+
+// The transcript that is to be left: the record's bytes behind what was used, and what was there everywhere else.
+fn take_transcript(expected: &mut [u8; 8192], film: &Film) -> bool {
+    let mut bytes = [0u8; 8192];
+    match read(&mut bytes, film.written) {
+        Some(written) => {
+            put(expected, film.used, written);
+            true
+        }
+        None => false,
+    }
+}
+
+// Whether what follows the head does as the answer behind it says. A macroblock's end is the next one's start; runs and replays begin where the list says.
+pub fn film_agrees(state: &mut State, reference: &Planes, film: &Film) -> bool {
     let mut list = [0u8; 512];
     let mut bits = [0u8; 4096];
-    let l = short_at(head, 52);
-    let m = short_at(head, 56);
-    if fill(&mut list, l) {
-        if fill(&mut bits, m) {
-            return compare(state, reference, &bits[..m], &list[..l], head);
-        }
+    let Some(list) = read(&mut list, film.list) else {
+        return false;
+    };
+    let Some(bits) = read(&mut bits, film.bits) else {
+        return false;
+    };
+    let mut expected = unwritten();
+    let mut end = *state;
+    let written = take_transcript(&mut expected, film);
+    let whole = take_end(&mut end, film);
+    let same = forms_agree(state, &end, reference, bits, list, &expected, film);
+    if let Work::Macroblock(_) = film.work {
+        *state = end;
     }
-    false
+    written & whole & same
 }

@@ -1,12 +1,26 @@
 // A macroblock, a run or a replay is made from the start's parts, and all that it left is compared.
-ghost use Rattle.std.specs.Prelude.{◌≤◌, length};
-
-use crate::bytes::short_at;
-use crate::lent::{lent_of, same_state, unpack};
-use crate::slices::{copy, put_pattern, within};
+use crate::head::{Film, Work};
+use crate::start::{Planes, State};
 use crate::{decoded, ran, replayed};
 
-// Whether what that kind of record asks for is answered as the head says.
+// How the work is made: by value, by the thin entry, or as a replay of the transcript that is expected.
+#[derive(Clone, Copy, PartialEq)]
+pub enum Form {
+    ByValue,
+    Thin,
+    Replay,
+}
+
+// A transcript of which nothing is written: bytes that no record has at every place, since each differs from its neighbours.
+pub fn unwritten() -> [u8; 8192] {
+    let mut transcript = [0u8; 8192];
+    for (i, byte) in transcript.iter_mut().enumerate() {
+        *byte = (i % 251) as u8;
+    }
+    transcript
+}
+
+// Whether the work is answered as expected.
 fn answered(
     y: &mut [u8],
     cb: &mut [u8],
@@ -19,120 +33,66 @@ fn answered(
     rcr: &[u8],
     bits: &[u8],
     list: &[u8],
-    head: &[u8; 80],
-    kind: u8,
-    thin: bool,
+    film: &Film,
+    form: Form,
 ) -> bool {
-    match kind {
-        3 => decoded::agrees(
-            y, cb, cr, mv, marks, transcript, ry, rcb, rcr, bits, head, thin,
+    let thin = form == Form::Thin;
+    if form == Form::Replay {
+        return replayed::agrees(y, cb, cr, mv, marks, ry, rcb, rcr, transcript, film);
+    }
+    match film.work {
+        Work::Macroblock(call) => decoded::agrees(
+            y, cb, cr, mv, marks, transcript, ry, rcb, rcr, bits, film, call, thin,
         ),
-        4 => ran::agrees(
-            y, cb, cr, mv, marks, transcript, ry, rcb, rcr, bits, list, head, thin,
+        Work::Run { accepted, consumed } => ran::agrees(
+            y, cb, cr, mv, marks, transcript, ry, rcb, rcr, bits, list, film, accepted, consumed,
+            thin,
         ),
-        _ => replayed::agrees(y, cb, cr, mv, marks, ry, rcb, rcr, transcript, head),
+        Work::Replay { .. } => false,
     }
 }
 
-// How much of the transcript is lent: a replay is lent what is written.
-fn room_of(head: &[u8; 80], kind: u8) -> usize
-    ensures { result ≤ 8192 }
-{
-    if kind == 5 {
-        within(short_at(head, 58), 8192)
-    } else {
-        within(short_at(head, 60), 8192)
-    }
-}
-
-// What is lent is the start of each part, as long as the head says.
-fn lend(
-    y: &mut [u8],
-    cb: &mut [u8],
-    cr: &mut [u8],
-    mv: &mut [i32],
-    marks: &mut [u8],
-    transcript: &mut [u8],
-    reference: &[u8],
-    bits: &[u8],
-    list: &[u8],
-    head: &[u8; 80],
-    kind: u8,
-    thin: bool,
-) -> bool
-    requires { (1600 ≤ length y.old) × (400 ≤ length cb.old) × (400 ≤ length cr.old) × (200 ≤ length mv.old) × (100 ≤ length marks.old) × (8192 ≤ length transcript.old) × (2400 ≤ length reference.now) }
-{
-    let l = lent_of(head);
-    let ny = l.y;
-    let ncb = l.cb;
-    let ncr = l.cr;
-    let nmv = l.mv;
-    let nmarks = l.marks;
-    let nry = l.ry;
-    let rcb = l.rcb;
-    let rcr = l.rcr;
-    let room = room_of(head, kind);
-    answered(
-        &mut y[..ny],
-        &mut cb[..ncb],
-        &mut cr[..ncr],
-        &mut mv[..nmv],
-        &mut marks[..nmarks],
-        &mut transcript[..room],
-        &reference[..nry],
-        &reference[1600..rcb],
-        &reference[2000..rcr],
-        bits,
-        list,
-        head,
-        kind,
-        thin,
-    )
-}
-
-// The transcript before: a replay's is the expected one, which it leaves as it is.
-fn put_transcript(transcript: &mut [u8], expected: &[u8], kind: u8) {
-    if kind == 5 {
-        copy(transcript, expected, 0);
-    } else {
-        put_pattern(transcript);
-    }
-}
-
-// Whether answer, state and transcript are as expected.
+// Whether answer, state and transcript are as expected. What is lent is the start of each part, as long as the head says, where the part has as much.
+// A replay is lent what is written of the transcript, and leaves it as it is.
 pub fn agrees(
-    start: &[u8],
-    end: &[u8],
-    reference: &[u8; 2400],
+    start: &State,
+    end: &State,
+    reference: &Planes,
     bits: &[u8],
     list: &[u8],
-    expected: &[u8],
-    head: &[u8; 80],
-    kind: u8,
-    thin: bool,
+    expected: &[u8; 8192],
+    film: &Film,
+    form: Form,
 ) -> bool {
-    let mut y = [0u8; 1600];
-    let mut cb = [0u8; 400];
-    let mut cr = [0u8; 400];
-    let mut mv = [0i32; 200];
-    let mut marks = [0u8; 100];
-    let mut transcript = [0u8; 8192];
-    unpack(&mut y, &mut cb, &mut cr, &mut mv, &mut marks, start);
-    put_transcript(&mut transcript, expected, kind);
-    let answer = lend(
-        &mut y,
-        &mut cb,
-        &mut cr,
-        &mut mv,
-        &mut marks,
-        &mut transcript,
-        reference,
+    let State {
+        planes: Planes {
+            mut y,
+            mut cb,
+            mut cr,
+        },
+        mut mv,
+        mut marks,
+    } = *start;
+    let replay = form == Form::Replay;
+    let mut transcript = if replay { *expected } else { unwritten() };
+    let room = if replay { film.written } else { film.room };
+    let lent = film.lent;
+    let answer = answered(
+        &mut y[..lent.y.min(1600)],
+        &mut cb[..lent.cb.min(400)],
+        &mut cr[..lent.cr.min(400)],
+        &mut mv[..lent.mv.min(200)],
+        &mut marks[..lent.marks.min(100)],
+        &mut transcript[..room.min(8192)],
+        &reference.y[..lent.ry.min(1600)],
+        &reference.cb[..lent.rcb.min(400)],
+        &reference.cr[..lent.rcr.min(400)],
         bits,
         list,
-        head,
-        kind,
-        thin,
+        film,
+        form,
     );
-    let same = same_state(&y, &cb, &cr, &mv, &marks, end);
-    answer & same & check::same(&transcript, expected)
+    let planes = Planes { y, cb, cr };
+    let left = State { planes, mv, marks };
+    answer & (left == *end) & (transcript == *expected)
 }

@@ -1,28 +1,22 @@
 #![tactic(auto)]
 // Decodes macroblocks and makes runs and replays as the published Rust did, and prints how many end otherwise.
 // tools/reference/README.md has the list's form: records of a head of 80 bytes, then what it says.
-mod bytes;
 mod compare;
 mod decoded;
 mod head;
 mod lend;
-mod lent;
 mod ran;
 mod replayed;
-mod slices;
 mod start;
 
-ghost use Rattle.std.specs.Prelude.{◌≤◌, ◌<◌};
+use crate::head::{Record, Work};
+use crate::start::{Planes, State};
+use std::fmt;
 
-use crate::bytes::fill;
-use crate::start::take_start;
-
-// The file descriptor of POSIX.
-const STDOUT_FILENO: i32 = 1;
-
-// What a record was: each count is 0 or 1.
-#[derive(Clone, Copy)]
-struct Turn {
+// How many there were of each kind, and how many records ended otherwise.
+#[derive(Clone, Copy, Default)]
+struct Counts {
+    macroblocks: u64,
     accepted: u64,
     refused: u64,
     runs: u64,
@@ -31,87 +25,75 @@ struct Turn {
     differ: u64,
 }
 
-fn one_if(test: bool) -> u64
-    ensures { result ≤ 1 }
-{
-    if test { 1 } else { 0 }
+impl Counts {
+    fn count(&mut self, record: Option<Record>, same: bool) {
+        self.differ = self.differ.saturating_add(u64::from(!same));
+        let Some(Record::Film(film)) = record else {
+            return;
+        };
+        let refused = u64::from(film.refusal.is_some());
+        match film.work {
+            Work::Macroblock(_) => {
+                self.macroblocks = self.macroblocks.saturating_add(1);
+                self.accepted = self.accepted.saturating_add(1 - refused);
+                self.refused = self.refused.saturating_add(refused);
+            }
+            Work::Run { .. } => {
+                self.runs = self.runs.saturating_add(1);
+                self.stopped = self.stopped.saturating_add(refused);
+            }
+            Work::Replay { .. } => self.replays = self.replays.saturating_add(1),
+        }
+    }
 }
 
-fn counted(head: &[u8; 80], same: bool) -> Turn
-    ensures { (result.accepted ≤ 1) × (result.refused ≤ 1) × (result.runs ≤ 1) × (result.stopped ≤ 1) × (result.replays ≤ 1) × (result.differ ≤ 1) }
-{
-    let kind = head[0];
-    let done = head[2] == 0;
-    Turn {
-        accepted: one_if((kind == 3) & done),
-        refused: one_if((kind == 3) & !done),
-        runs: one_if(kind == 4),
-        stopped: one_if((kind == 4) & !done),
-        replays: one_if(kind == 5),
-        differ: one_if(!same),
+impl fmt::Display for Counts {
+    fn fmt<W: fmt::Write>(&self, f: &mut fmt::Formatter<W>) -> fmt::Result {
+        let macroblocks = self.macroblocks;
+        let accepted = self.accepted;
+        let refused = self.refused;
+        let runs = self.runs;
+        let stopped = self.stopped;
+        let replays = self.replays;
+        let differ = self.differ;
+        writeln!(
+            f,
+            "{macroblocks} macroblocks, each by value and by the thin entry, {accepted} accepted, {refused} refused"
+        )?;
+        writeln!(
+            f,
+            "{runs} runs, each by value and by the thin entry, {stopped} stopped"
+        )?;
+        writeln!(f, "{replays} replays")?;
+        write!(f, "{differ} differ")
     }
 }
 
 // A start, or what is made from it. A kind that is not known differs.
-fn agrees(state: &mut [u8], reference: &mut [u8; 2400], head: &[u8; 80]) -> bool {
-    match head[0] {
-        1 | 2 => take_start(state, reference, head),
-        3 | 4 | 5 => compare::agrees(state, reference, head),
-        _ => false,
+fn agrees(state: &mut State, reference: &mut Planes, record: Option<Record>) -> bool {
+    match record {
+        Some(Record::Start(n)) => {
+            let n = n % 256;
+            reference.take(n) & state.take(n)
+        }
+        Some(Record::Cells(n)) => state.take_cells(n % 256),
+        Some(Record::Film(film)) => compare::film_agrees(state, reference, &film),
+        None => false,
     }
 }
 
-// The next record. One whose head is not whole differs.
-fn take_record(state: &mut [u8], reference: &mut [u8; 2400]) -> Turn
-    ensures { (result.accepted ≤ 1) × (result.refused ≤ 1) × (result.runs ≤ 1) × (result.stopped ≤ 1) × (result.replays ≤ 1) × (result.differ ≤ 1) }
-{
-    let mut head = [0u8; 80];
-    let whole = fill(&mut head, 80);
-    let same = agrees(state, reference, &head);
-    counted(&head, whole & same)
-}
-
-fn print_count(count: u64, words: &[u8]) {
-    io::print_decimal(STDOUT_FILENO, count);
-    io::write_all(STDOUT_FILENO, words);
-}
-
-fn print_counts(accepted: u64, refused: u64, runs: u64, stopped: u64, replays: u64, differ: u64)
-    requires { (accepted < 4294967296) × (refused < 4294967296) }
-{
-    print_count(
-        accepted + refused,
-        b" macroblocks, each by value and by the thin entry, ",
-    );
-    print_count(accepted, b" accepted, ");
-    print_count(refused, b" refused\n");
-    print_count(runs, b" runs, each by value and by the thin entry, ");
-    print_count(stopped, b" stopped\n");
-    print_count(replays, b" replays\n");
-    print_count(differ, b" differ\n");
-}
-
-// The largest grid has six macroblocks; a slice may be lent longer than that.
-fn main() {
-    let total = bytes::count();
-    let mut state = [0u8; 3300];
-    let mut reference = [0u8; 2400];
-    let mut accepted: u64 = 0;
-    let mut refused: u64 = 0;
-    let mut runs: u64 = 0;
-    let mut stopped: u64 = 0;
-    let mut replays: u64 = 0;
-    let mut differ: u64 = 0;
-    let mut i: u64 = 0;
-    while i < total {
-        let t = take_record(&mut state, &mut reference);
-        accepted += t.accepted;
-        refused += t.refused;
-        runs += t.runs;
-        stopped += t.stopped;
-        replays += t.replays;
-        differ += t.differ;
-        i += 1;
+// The largest grid has six macroblocks; a slice may be lent longer than that. A record whose head is not whole differs.
+fn main(rt: HostRuntime) {
+    let mut state = State::new();
+    let mut reference = Planes::new();
+    let mut counts = Counts::default();
+    for _ in 0..lists::count() {
+        let mut bytes = [0u8; 80];
+        let whole = lists::read(&mut bytes, 80).is_some();
+        let record = Record::of(&bytes);
+        let same = agrees(&mut state, &mut reference, record);
+        counts.count(record, whole & same);
     }
-    print_counts(accepted, refused, runs, stopped, replays, differ);
+    // Where the line cannot be written, it is missed by whoever compares what was printed.
+    let _ = println!(rt; "{counts}");
 }

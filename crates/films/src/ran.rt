@@ -1,31 +1,30 @@
-// Kind 4, a run, made by value or by the thin entry.
-use crate::bytes::{long_at, number_at, short_at};
-use crate::head::{frame_of, refused};
-use run::Stop;
+// A run, made by value or by the thin entry.
+use crate::head::Film;
+use refusal::Refusal;
 use run::run::run;
 use state::Frame;
 use thin::cursor_of;
 use thin::moved::{RunMoved, run_moved};
 
-fn stopped(stop: Stop, head: &[u8; 80]) -> bool {
+fn stopped(stop: Result<(), Refusal>, film: &Film) -> bool {
     match stop {
-        Stop::Done => head[2] == 0,
-        Stop::By(why) => refused(why, head),
+        Ok(()) => film.refusal.is_none(),
+        Err(why) => film.refuses(why),
     }
 }
 
-fn reported(got: RunMoved, head: &[u8; 80]) -> bool {
+fn reported(got: RunMoved, film: &Film, accepted: usize, consumed: usize) -> bool {
     let report = got.report;
     let cursor = got.cursor;
-    let stop = report.stop;
-    (report.accepted == number_at(head, 12) as usize)
-        & (report.consumed == number_at(head, 16) as usize)
-        & (report.place == long_at(head, 40))
-        & (report.quantiser == number_at(head, 28))
-        & (report.fill == short_at(head, 58))
-        & (cursor.place == long_at(head, 40))
-        & (cursor.quantiser == number_at(head, 28))
-        & stopped(stop, head)
+    let after = film.after;
+    (report.accepted == accepted)
+        & (report.consumed == consumed)
+        & (report.place == after.place)
+        & (report.quantiser == after.quantiser)
+        & (report.fill == film.written)
+        & (cursor.place == after.place)
+        & (cursor.quantiser == after.quantiser)
+        & stopped(report.stop, film)
 }
 
 fn make_run(
@@ -70,14 +69,28 @@ pub fn agrees(
     rcr: &[u8],
     bits: &[u8],
     list: &[u8],
-    head: &[u8; 80],
+    film: &Film,
+    accepted: usize,
+    consumed: usize,
     thin: bool,
 ) -> bool {
-    let frame = frame_of(head);
-    let quantiser = number_at(head, 24);
-    let place = long_at(head, 32);
+    let before = film.before;
     let got = make_run(
-        y, cb, cr, mv, marks, transcript, ry, rcb, rcr, bits, list, frame, quantiser, place, thin,
+        y,
+        cb,
+        cr,
+        mv,
+        marks,
+        transcript,
+        ry,
+        rcb,
+        rcr,
+        bits,
+        list,
+        film.frame,
+        before.quantiser,
+        before.place,
+        thin,
     );
-    reported(got, head)
+    reported(got, film, accepted, consumed)
 }

@@ -1,116 +1,111 @@
-// The state of a grid in one array of 3,300 bytes, as the list gives it: luma from 0 on, Cb from 1,600,
-// Cr from 2,000, marks from 2,400, and from 2,500 the vectors, four bytes a component. A reference has the three planes alone.
-ghost use Rattle.std.specs.Prelude.{◌≤◌, ◌<◌};
+// The state of a grid of at most six macroblocks, and its reference, as a list gives them.
+ghost use Rattle.std.specs.Prelude.{◌≡◌, ◌<◌, ◌≤◌};
 
-use crate::bytes::{fill, number_at, short_at};
-use crate::slices::{put_bytes, put_pattern};
+use lists::{read, take_numbers};
+use picture::{Block, Grid};
+use state::Call;
 
-// The next n bytes, to place `at`: whether the part has room for them and all came.
-fn take_part(b: &mut [u8], at: usize, most: usize, n: usize) -> bool {
-    if n <= most {
-        if at <= b.len() {
-            return fill(&mut b[at..], n);
+#[derive(Clone, Copy, PartialEq)]
+pub struct Planes {
+    pub y: [u8; 1600],
+    pub cb: [u8; 400],
+    pub cr: [u8; 400],
+}
+
+#[derive(Clone, Copy, PartialEq)]
+pub struct State {
+    pub planes: Planes,
+    pub mv: [i32; 200],
+    pub marks: [u8; 100],
+}
+
+impl Planes {
+    pub fn new() -> Planes {
+        Planes {
+            y: [0; 1600],
+            cb: [0; 400],
+            cr: [0; 400],
         }
     }
-    false
-}
 
-// The planes of n macroblocks.
-fn take_planes(b: &mut [u8], n: usize) -> bool
-    requires { n < 256 }
-{
-    take_part(b, 0, 1600, 256 * n)
-        & take_part(b, 1600, 400, 64 * n)
-        & take_part(b, 2000, 400, 64 * n)
-}
-
-// The vectors and the marks of n macroblocks.
-fn take_cells(b: &mut [u8], n: usize) -> bool
-    requires { n < 256 }
-{
-    take_part(b, 2500, 800, 128 * n) & take_part(b, 2400, 100, 16 * n)
-}
-
-// Kind 1, a start, and kind 2, its vectors and marks anew.
-pub fn take_start(state: &mut [u8], reference: &mut [u8], head: &[u8; 80]) -> bool {
-    let n = (number_at(head, 4) % 256) as usize;
-    if head[0] == 1 {
-        let planes = take_planes(reference, n) & take_planes(state, n);
-        return take_cells(state, n) & planes;
-    }
-    take_cells(state, n)
-}
-
-// An element's place among rows of `stride` elements.
-fn place(row: usize, stride: usize, column: usize) -> usize
-    requires { (row < 65536) × (stride < 65536) × (column < 65536) }
-    ensures { result < 8589934592 }
-{
-    row * stride + column
-}
-
-// w × h bytes, from place `from` of the bytes given on, at a place of the part that starts at `to`.
-fn put_part(
-    state: &mut [u8],
-    given: &[u8],
-    from: usize,
-    to: usize,
-    w: usize,
-    h: usize,
-    stride: usize,
-    x: usize,
-    y: usize,
-)
-    requires { (from < 65536) × (to < 65536) × (w ≤ 32) × (h ≤ 16) × (stride < 65536) × (x < 65536) × (y < 65000) }
-{
-    let mut r = 0;
-    let mut p = from;
-    while r < h {
-        put_bytes(state, given, p, to + place(y + r, stride, x), w);
-        p += w;
-        r += 1;
+    // Those of n macroblocks: whether there is room for them and all came.
+    pub fn take(&mut self, n: usize) -> bool {
+        read(&mut self.y, n.saturating_mul(256)).is_some()
+            & read(&mut self.cb, n.saturating_mul(64)).is_some()
+            & read(&mut self.cr, n.saturating_mul(64)).is_some()
     }
 }
 
-// The samples, vectors and marks of the macroblock in column x and row y of a grid of c columns.
-fn put_block(state: &mut [u8], given: &[u8], head: &[u8; 80]) {
-    let c = short_at(head, 4) % 1024;
-    let x = short_at(head, 12) % 1024;
-    let y = short_at(head, 16) % 1024;
-    put_part(state, given, 0, 0, 16, 16, 16 * c, 16 * x, 16 * y);
-    put_part(state, given, 256, 1600, 8, 8, 8 * c, 8 * x, 8 * y);
-    put_part(state, given, 320, 2000, 8, 8, 8 * c, 8 * x, 8 * y);
-    put_part(state, given, 384, 2500, 32, 4, 32 * c, 32 * x, 4 * y);
-    put_part(state, given, 512, 2400, 4, 4, 4 * c, 4 * x, 4 * y);
-}
-
-// What a macroblock leaves of itself. A refused one has none.
-fn take_block(end: &mut [u8], head: &[u8; 80]) -> bool {
-    let mut block = [0u8; 528];
-    if head[2] != 0 {
-        return true;
+// The elements given, at place `at` and on. What passes the end is left out.
+pub fn put<T: Copy>(to: &mut [T], at: usize, given: &[T]) {
+    for (element, value) in to.iter_mut().skip(at).zip(given) {
+        *element = *value;
     }
-    let whole = fill(&mut block, 528);
-    put_block(end, &block, head);
-    whole
 }
 
-// The state that is to be left, where it is not the start.
-pub fn take_end(end: &mut [u8], head: &[u8; 80]) -> bool {
-    if head[0] == 3 {
-        return take_block(end, head);
+// A block given by its rows. What passes the end is left out.
+fn put_block<T: Copy>(to: &mut [T], given: &[T], b: Block)
+    requires { 0 < b.w }
+{
+    for (r, row) in given.chunks_exact(b.w).enumerate() {
+        let at = b.y.saturating_add(r).saturating_mul(b.stride);
+        put(to, at.saturating_add(b.x), row);
     }
-    let n = short_at(head, 54) % 256;
-    let planes = take_planes(end, n);
-    take_cells(end, n) & planes
 }
 
-// The transcript that is to be left: the record's bytes at the fill, and what was there everywhere else.
-pub fn take_transcript(expected: &mut [u8], head: &[u8; 80]) -> bool {
-    let mut bytes = [0u8; 8192];
-    let n = short_at(head, 58);
-    let whole = fill(&mut bytes, n);
-    put_pattern(expected);
-    put_bytes(expected, &bytes, 0, short_at(head, 62), n);
-    whole
+// Where a macroblock of w × h elements lies. The grids of a list are small: ten bits of a column, a row or a width count.
+fn block_of(grid: Grid, call: Call, w: usize, h: usize) -> Block
+    requires { (w ≤ 16) × (h ≤ 16) }
+    ensures { result.w ≡ w }
+{
+    Block {
+        stride: w * (grid.cols % 1024),
+        x: w * (call.column as usize % 1024),
+        y: h * (call.row as usize % 1024),
+        w,
+        h,
+    }
+}
+
+impl State {
+    pub fn new() -> State {
+        State {
+            planes: Planes::new(),
+            mv: [0; 200],
+            marks: [0; 100],
+        }
+    }
+
+    // The vectors and the marks of n macroblocks.
+    pub fn take_cells(&mut self, n: usize) -> bool {
+        let mut bytes = [0u8; 800];
+        let vectors = match read(&mut bytes, n.saturating_mul(128)) {
+            Some(bytes) => {
+                take_numbers(&mut self.mv, bytes);
+                true
+            }
+            None => false,
+        };
+        vectors & read(&mut self.marks, n.saturating_mul(16)).is_some()
+    }
+
+    pub fn take(&mut self, n: usize) -> bool {
+        self.planes.take(n) & self.take_cells(n)
+    }
+
+    // The samples, vectors and marks of one macroblock.
+    pub fn take_macroblock(&mut self, grid: Grid, call: Call) -> bool {
+        let mut bytes = [0u8; 528];
+        let whole = read(&mut bytes, 528).is_some();
+        let mut vectors = [0i32; 32];
+        take_numbers(&mut vectors, &bytes[384..512]);
+        let luma = block_of(grid, call, 16, 16);
+        let chroma = block_of(grid, call, 8, 8);
+        put_block(&mut self.planes.y, &bytes[0..256], luma);
+        put_block(&mut self.planes.cb, &bytes[256..320], chroma);
+        put_block(&mut self.planes.cr, &bytes[320..384], chroma);
+        put_block(&mut self.mv, &vectors, block_of(grid, call, 8, 4));
+        put_block(&mut self.marks, &bytes[512..], block_of(grid, call, 4, 4));
+        whole
+    }
 }

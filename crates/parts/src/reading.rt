@@ -1,131 +1,134 @@
-// The readers of bits, kinds 1 to 8.
-ghost use Rattle.std.specs.Prelude.{◌+◌, ◌*◌, ◌≤◌, ◌<◌, ◌^◌, length};
+// The readers of bits.
+ghost use Rattle.std.specs.Prelude.{◌≤◌, ◌<◌, ◌^◌, length};
 
-use crate::answers::{accepted, all_values, number, refused, value};
-use crate::bytes::{long_at, wide};
-use bits::svq3::CodeAnswer;
-use bits::svq3_mv::SignedAnswer;
-use levels::svq3_cbp::CbpAnswer;
-use levels::svq3_coeff::{LevelRun, ListAnswer, ResidualBook};
-use vectors::svq3_mb::PrecisionAnswer;
+use crate::head::{Expected, Reader};
+use levels::svq3_coeff::ResidualBook;
+use lists::take_numbers;
 
-fn code_agrees(head: &[u8; 32], bits: &[u8], values: &[u8], at: usize) -> bool
+fn code_agrees(expected: Expected, bits: &[u8], values: &[i32], at: usize) -> bool
     requires { length bits.now < 2 ^ 61 }
 {
     match bits::svq3::read_universal_code(bits, at) {
-        CodeAnswer::Code(k, next) => accepted(head, next, values, 1)
-            & number(values, 0, k as usize),
-        CodeAnswer::Refused(r) => refused(head, r),
+        Ok((k, next)) => expected.accepts(next)
+            & (values == [k.cast_signed()].as_slice()),
+        Err(why) => expected.refuses(why),
     }
 }
 
-fn signed_agrees(head: &[u8; 32], bits: &[u8], values: &[u8], at: usize) -> bool
+fn signed_agrees(expected: Expected, bits: &[u8], values: &[i32], at: usize) -> bool
     requires { length bits.now < 2 ^ 61 }
 {
     match bits::svq3_mv::read_signed_code(bits, at) {
-        SignedAnswer::Value(v, next) => accepted(head, next, values, 1) & value(values, 0, v),
-        SignedAnswer::Refused(r) => refused(head, r),
+        Ok((v, next)) => expected.accepts(next) & (values == [v].as_slice()),
+        Err(why) => expected.refuses(why),
     }
 }
 
-// The option has the flags: 1 half, 2 third.
-fn precision_agrees(head: &[u8; 32], bits: &[u8], values: &[u8], at: usize, option: u32) -> bool
+fn precision_agrees(
+    expected: Expected,
+    bits: &[u8],
+    values: &[i32],
+    at: usize,
+    halfpel: bool,
+    thirdpel: bool,
+) -> bool
     requires { length bits.now < 2 ^ 61 }
 {
-    let half = option % 2 == 1;
-    let third = 2 <= option;
-    match vectors::svq3_mb::read_inter_mv_precision_p_frame(bits, at, third, half) {
-        PrecisionAnswer::Precision(p, next) => {
-            accepted(head, next, values, 1)
-                & number(values, 0, vectors::svq3_mb::precision_number(p) as usize)
+    match vectors::svq3_mb::read_inter_mv_precision_p_frame(bits, at, thirdpel, halfpel) {
+        Ok((p, next)) => {
+            let number = vectors::svq3_mb::precision_number(p).cast_signed();
+            expected.accepts(next) & (values == [number].as_slice())
         }
-        PrecisionAnswer::Refused(r) => refused(head, r),
+        Err(why) => expected.refuses(why),
     }
 }
 
-fn pattern_agrees(head: &[u8; 32], bits: &[u8], values: &[u8], at: usize) -> bool
+fn pattern_agrees(expected: Expected, bits: &[u8], values: &[i32], at: usize) -> bool
     requires { length bits.now < 2 ^ 61 }
 {
     match levels::svq3_cbp::read_cbp_inter(bits, at) {
-        CbpAnswer::Pattern(v, next) => accepted(head, next, values, 1)
-            & number(values, 0, v as usize),
-        CbpAnswer::Refused(r) => refused(head, r),
+        Ok((v, next)) => expected.accepts(next)
+            & (values == [i32::from(v)].as_slice()),
+        Err(why) => expected.refuses(why),
     }
 }
 
 // The place is the code.
-fn level_agrees(head: &[u8; 32], values: &[u8], at: usize, option: u32) -> bool {
+fn level_agrees(expected: Expected, values: &[i32], at: usize, book: ResidualBook) -> bool {
     let code = (at % 4294967296) as u32;
-    let book = if option == 0 {
-        ResidualBook::NormalScan
-    } else {
-        ResidualBook::ChromaDc
-    };
     match levels::svq3_coeff::resolve_level_run(book, code) {
-        LevelRun::Pair(level, run) => {
-            accepted(head, at, values, 2)
-                & value(values, 0, level)
-                & number(values, 1, run as usize)
-        }
-        LevelRun::End => accepted(head, at, values, 0),
+        Some((level, run)) => expected.accepts(at)
+            & (values == [level, run.cast_signed()].as_slice()),
+        None => expected.accepts(at) & values.is_empty(),
     }
 }
 
-fn list_agrees(head: &[u8; 32], bits: &[u8], values: &[u8], at: usize, option: u32) -> bool
-    requires { length bits.now < 2 ^ 61 }
+fn list_agrees(expected: Expected, bits: &[u8], values: &[i32], at: usize, start: u32) -> bool
+    requires { (length bits.now < 2 ^ 61) × (start ≤ 1) }
 {
     let mut levels = [0i32; 16];
-    match levels::svq3_coeff::decode_residual_4x4_normal(&mut levels, 0, bits, at, option % 2) {
-        ListAnswer::End(next) => accepted(head, next, values, 16) & all_values(values, &levels, 16),
-        ListAnswer::Refused(r) => refused(head, r),
+    match levels::svq3_coeff::decode_residual_4x4_normal(&mut levels, 0, bits, at, start) {
+        Ok(next) => expected.accepts(next) & (values == levels.as_slice()),
+        Err(why) => expected.refuses(why),
     }
 }
 
-fn dc_agrees(head: &[u8; 32], bits: &[u8], values: &[u8], at: usize) -> bool
+fn dc_agrees(expected: Expected, bits: &[u8], values: &[i32], at: usize) -> bool
     requires { length bits.now < 2 ^ 61 }
 {
     let mut levels = [0i32; 4];
     match levels::svq3_coeff::decode_chroma_dc_2x2(&mut levels, 0, bits, at) {
-        ListAnswer::End(next) => accepted(head, next, values, 4) & all_values(values, &levels, 4),
-        ListAnswer::Refused(r) => refused(head, r),
+        Ok(next) => expected.accepts(next) & (values == levels.as_slice()),
+        Err(why) => expected.refuses(why),
+    }
+}
+
+// Whether value i is n.
+fn value_is(values: &[i32], i: usize, n: usize) -> bool {
+    match values.get(i) {
+        Some(value) => usize::try_from(*value) == Ok(n),
+        None => false,
     }
 }
 
 // Count, width, height, then each partition's place.
-fn partitions_agree(head: &[u8; 32], values: &[u8], at: usize, mode: u32) -> bool
+#[tactic(auto, using(crate::proofs::Few::few))]
+fn partitions_agree(expected: Expected, values: &[i32], at: usize, mode: u32) -> bool
     requires { mode ≤ 7 }
 {
     let n = vectors::svq3_mb::num_motion_vectors(mode);
-    let w = vectors::svq3_mb::partition_width(mode);
-    let h = vectors::svq3_mb::partition_height(mode);
-    let mut same = accepted(head, at, values, 3 + 2 * n);
-    same = same & number(values, 0, n) & number(values, 1, w) & number(values, 2, h);
-    let mut i = 0;
-    while i < n {
+    let mut same = expected.accepts(at)
+        & (values.len() == 3 + 2 * n)
+        & value_is(values, 0, n)
+        & value_is(values, 1, vectors::svq3_mb::partition_width(mode))
+        & value_is(values, 2, vectors::svq3_mb::partition_height(mode));
+    for i in 0..n {
         let x = vectors::svq3_mb::partition_offset_x(mode, i);
         let y = vectors::svq3_mb::partition_offset_y(mode, i);
-        same = same & number(values, 3 + 2 * i, x) & number(values, 4 + 2 * i, y);
-        i += 1;
+        same &= value_is(values, 3 + 2 * i, x) & value_is(values, 4 + 2 * i, y);
     }
     same
 }
 
-// A kind that is not known differs.
-pub fn agrees(head: &[u8; 32], bits: &[u8], values: &[u8]) -> bool
+// Whether a reader answers as expected.
+pub fn agrees(reader: Reader, at: usize, expected: Expected, bits: &[u8], answered: &[u8]) -> bool
     requires { length bits.now < 2 ^ 61 }
 {
-    let kind = head[0];
-    let option = wide(head[1]) as u32;
-    let at = long_at(head, 8);
-    match kind {
-        1 => code_agrees(head, bits, values, at),
-        2 => signed_agrees(head, bits, values, at),
-        3 => precision_agrees(head, bits, values, at, option),
-        4 => pattern_agrees(head, bits, values, at),
-        5 => level_agrees(head, values, at, option),
-        6 => list_agrees(head, bits, values, at, option),
-        7 => dc_agrees(head, bits, values, at),
-        8 => partitions_agree(head, values, at, option % 8),
-        _ => false,
+    let mut numbers = [0i32; 64];
+    take_numbers(&mut numbers, answered);
+    let Some(values) = numbers.get(..answered.len() / 4) else {
+        return false;
+    };
+    match reader {
+        Reader::UniversalCode => code_agrees(expected, bits, values, at),
+        Reader::SignedCode => signed_agrees(expected, bits, values, at),
+        Reader::Precision { halfpel, thirdpel } => {
+            precision_agrees(expected, bits, values, at, halfpel, thirdpel)
+        }
+        Reader::Pattern => pattern_agrees(expected, bits, values, at),
+        Reader::LevelRun(book) => level_agrees(expected, values, at, book),
+        Reader::ResidualList(start) => list_agrees(expected, bits, values, at, start % 2),
+        Reader::ChromaDc => dc_agrees(expected, bits, values, at),
+        Reader::Partitions(mode) => partitions_agree(expected, values, at, mode % 8),
     }
 }

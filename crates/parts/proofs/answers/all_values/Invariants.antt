@@ -1,9 +1,0 @@
--- `parts::answers::all_values` is safe, and ends.
-use Prim.Native.Nat.{◌≤◌, ◌-◌}
-use Rattle.parts.proofs.answers.all_values.Given as goal
-
-abbrev pub invariant-loop-i : goal.invariant-loop-i
-invariant-loop-i l = l.i ≤ l.n
-
-abbrev pub decreases-loop-i : goal.decreases-loop-i
-decreases-loop-i l = l.n - l.i
