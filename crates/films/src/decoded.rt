@@ -1,7 +1,7 @@
 // A macroblock, decoded by value or by the thin entry.
 use crate::head::Film;
-use macroblock::svq3_frame::decode_inter_mb;
 use macroblock::cursor_by;
+use macroblock::svq3_frame::decode_inter_mb;
 use state::{Call, Cursor, Frame};
 use thin::moved::{MbMoved, decode_moved};
 use transcript::check::check_record;

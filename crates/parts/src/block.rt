@@ -4,7 +4,12 @@ use crate::head::Compensated;
 use compensation::svq3_mc::{motion_compensate_block, motion_compensate_chroma_block};
 use refusal::Refusal;
 
-fn compensate(out: &mut [u8], samples: &[u8], plane: &Plane, b: Compensated) -> Result<(), Refusal> {
+fn compensate(
+    out: &mut [u8],
+    samples: &[u8],
+    plane: &Plane,
+    b: Compensated,
+) -> Result<(), Refusal> {
     let width = plane.width;
     let height = plane.height;
     if b.chroma {

@@ -9,8 +9,7 @@ fn code_agrees(expected: Expected, bits: &[u8], values: &[i32], at: usize) -> bo
     requires { length bits.now < 2 ^ 61 }
 {
     match bits::svq3::read_universal_code(bits, at) {
-        Ok((k, next)) => expected.accepts(next)
-            & (values == [k.cast_signed()].as_slice()),
+        Ok((k, next)) => expected.accepts(next) & (values == [k.cast_signed()].as_slice()),
         Err(why) => expected.refuses(why),
     }
 }
@@ -47,8 +46,7 @@ fn pattern_agrees(expected: Expected, bits: &[u8], values: &[i32], at: usize) ->
     requires { length bits.now < 2 ^ 61 }
 {
     match levels::svq3_cbp::read_cbp_inter(bits, at) {
-        Ok((v, next)) => expected.accepts(next)
-            & (values == [i32::from(v)].as_slice()),
+        Ok((v, next)) => expected.accepts(next) & (values == [i32::from(v)].as_slice()),
         Err(why) => expected.refuses(why),
     }
 }
