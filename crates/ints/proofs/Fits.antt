@@ -2,7 +2,6 @@
 -- A lemma for each form of a number says what its parts may be, and a search goes down the form to the parameters. In a proof:
 --     search signed depth 20            the needs: a signed sum, product, quotient, shift, negation or cast fits
 --     fits (search ranges depth 20)     a long sum whose parameters are bound by `let record { a = a; .. } = c.fits in`
---     search branches                   a return under tests: the test's outcome chooses the branch of `when◌then◌else◌`
 --     search signed fits 20000 depth 30 where "its count of 1000 was spent"
 -- A bound that neither a type nor a test gives goes in by `let h = .. in`, as `h : mag z < m`, `nat_abs z ≤ m`, `a < m` or `z ≡ x`. In a product the literal stands first: `6 * x`.
 -- Assumes nothing.
@@ -304,8 +303,6 @@ pub ruleset forms = (tt, within-lit, within-read, within-add, within-neg, within
 pub ruleset ranges = (forms, within-i32, within-i64, within-i16, within-i8)
 
 pub ruleset signed = (lit<, fits-within, within-fits, forms, nonneg-no, nonneg-le, nonneg-read, fits-between, fits-abs)
-
-pub ruleset branches = (tt, to_z-of_z, lt-plain, lt-plain-l, lt-plain-r, le-plain, le-plain-l, le-plain-r, fits-plain, if_yes, if_no, abs-back)
 
 -- ---- what a call gave
 -- its result, read back: `back w32 c.f.ok c.f.ensures`

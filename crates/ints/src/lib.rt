@@ -1,7 +1,7 @@
 #![tactic(auto)]
 // Signed helpers. Each contract is an equation in ℤ, the numbers without bounds, by the definitions of specs/Z.antt.
 ghost use Rattle.std.specs.Prelude.{◌≡◌, ◌+ℤ◌, ◌*ℤ◌};
-ghost use Rattle.ints.specs.Z.{sat_z, clamp_z, median_z, toward_zero};
+ghost use Rattle.ints.specs.Z.{sat_z, median_z};
 ghost use Rattle.ints.specs.InnerHeld.{held_z};
 
 // The nearest i32.
@@ -36,26 +36,8 @@ pub fn sat_mul(a: i32, b: i32) -> Held
     }
 }
 
-pub fn clamp_i64(v: i64, lo: i64, hi: i64) -> i64
-    ensures { result ≡ clamp_z lo hi v }
-{
-    if v < lo {
-        lo
-    } else if v > hi {
-        hi
-    } else {
-        v
-    }
-}
-
 pub fn median3(a: i32, b: i32, c: i32) -> i32
     ensures { result ≡ median_z a b c }
 {
     c.clamp(a.min(b), a.max(b))
-}
-
-pub fn half_toward_zero(v: i32) -> i32
-    ensures { result ≡ toward_zero v 2 }
-{
-    v / 2
 }
