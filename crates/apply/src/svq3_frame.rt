@@ -92,10 +92,8 @@ pub fn compensate_luma(pic: &mut [u8], reference: &[u8], vectors: &[i32], grid: 
     ensures { pic.new ≡ moved_up_to (num_motion_vectors call.mode) (unit false) grid.cols grid.rows reference.now call vectors.now pic.old }
 {
     let n = num_motion_vectors(call.mode);
-    let mut i = 0;
-    while i < n {
+    for i in 0..n {
         compensate_partition(pic, reference, vectors, grid, call, i);
-        i += 1;
     }
 }
 
@@ -140,9 +138,7 @@ pub fn compensate_chroma(
     ensures cr_after { cr.new ≡ moved_up_to (num_motion_vectors call.mode) (unit true) grid.cols grid.rows rcr.now call vectors.now cr.old }
 {
     let n = num_motion_vectors(call.mode);
-    let mut k = 0;
-    while k < n {
+    for k in 0..n {
         compensate_pair(cb, cr, rcb, rcr, vectors, grid, call, k);
-        k += 1;
     }
 }

@@ -33,14 +33,12 @@ fn store_row(mv: &mut [i32], vectors: &[i32], at: usize, four: u64)
     requires { (at + 8 ≤ length mv.old) × (length vectors.now ≡ 32) }
     ensures { mv.new ≡ row mv.old at (own_number vectors.now four) 8 }
 {
-    let mut c = 0;
-    while c < 4 {
+    for c in 0..4 {
         let i = ((four >> (4 * c)) % 16) as usize;
         let vx = vectors[2 * i];
         let vy = vectors[2 * i + 1];
         mv[at + 2 * c] = vx;
         mv[at + 2 * c + 1] = vy;
-        c += 1;
     }
 }
 
@@ -55,11 +53,9 @@ pub fn store_partitions(mv: &mut [i32], marks: &mut [u8], vectors: &[i32], grid:
     let x = 4 * (call.column as usize);
     let y = 4 * (call.row as usize);
     let whose = owners(call.mode);
-    let mut r = 0;
-    while r < 4 {
+    for r in 0..4 {
         let at = (y + r) * stride + x;
         store_row(mv, vectors, 2 * at, whose >> (16 * r));
         mark_row(marks, at, 4);
-        r += 1;
     }
 }

@@ -36,10 +36,8 @@ pub fn add_luma(pic: &mut [u8], levels: &[i32], grid: Grid, head: Head)
     requires pic_len { (length pic.old ≡ luma_length grid.cols grid.rows) × (length levels.now ≡ 392) × (head.pattern ≤ 47) × (head.quantiser ≤ 31) }
     ensures { pic.new ≡ luma_up_to 16 grid.cols head levels.now pic.old }
 {
-    let mut q = 0;
-    while q < 4 {
+    for q in 0..4 {
         add_quadrant(pic, levels, grid, head, q);
-        q += 1;
     }
 }
 

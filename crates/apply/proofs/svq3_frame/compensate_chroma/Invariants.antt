@@ -1,12 +1,8 @@
 -- `apply::svq3_frame::compensate_chroma` meets its contract: k partitions are in both planes.
 use mathlib.Core.Path.{◌≡◌}
 use mathlib.Core.Bool.{true}
-use Prim.Native.Nat.{◌-◌, ◌≤◌}
 use Rattle.apply.specs.Moved.{unit, moved_up_to}
 use Rattle.apply.proofs.svq3_frame.compensate_chroma.Given as goal
 
 abbrev pub invariant-loop-k : goal.invariant-loop-k
-invariant-loop-k l = (l.k ≤ l.n) × (l.cb ≡ moved_up_to l.k (unit true) l.grid.cols l.grid.rows l.rcb l.call l.vectors l.initial.cb) × (l.cr ≡ moved_up_to l.k (unit true) l.grid.cols l.grid.rows l.rcr l.call l.vectors l.initial.cr)
-
-abbrev pub decreases-loop-k : goal.decreases-loop-k
-decreases-loop-k l = l.n - l.k
+invariant-loop-k l = (l.cb ≡ moved_up_to l.k (unit true) l.grid.cols l.grid.rows l.rcb l.call l.vectors l.initial.cb) × (l.cr ≡ moved_up_to l.k (unit true) l.grid.cols l.grid.rows l.rcr l.call l.vectors l.initial.cr)

@@ -1,12 +1,8 @@
 -- `apply::svq3_frame::compensate_luma` meets its contract: i partitions are in the plane.
 use mathlib.Core.Path.{◌≡◌}
 use mathlib.Core.Bool.{false}
-use Prim.Native.Nat.{◌-◌, ◌≤◌}
 use Rattle.apply.specs.Moved.{unit, moved_up_to}
 use Rattle.apply.proofs.svq3_frame.compensate_luma.Given as goal
 
 abbrev pub invariant-loop-i : goal.invariant-loop-i
-invariant-loop-i l = (l.i ≤ l.n) × (l.pic ≡ moved_up_to l.i (unit false) l.grid.cols l.grid.rows l.reference l.call l.vectors l.initial.pic)
-
-abbrev pub decreases-loop-i : goal.decreases-loop-i
-decreases-loop-i l = l.n - l.i
+invariant-loop-i l = l.pic ≡ moved_up_to l.i (unit false) l.grid.cols l.grid.rows l.reference l.call l.vectors l.initial.pic

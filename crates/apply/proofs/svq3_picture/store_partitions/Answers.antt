@@ -26,21 +26,18 @@ lies c = inside-row (cells c.before.before.before.before.before.before.before) c
 
 pub loop-r-init : goal.loop-r-init
 unfolding rows
-loop-r-init c = (omega arith, refl, refl, refl, refl)
+loop-r-init c = (refl, refl)
 
 pub store_row-requires : goal.store_row-requires
 store_row-requires c =
-    (omega (arith, lies (goal.at.store_row-requires c).In-loop-r, c.requires.mv_len.0, c.requires.mv_len.1, c.loop-r.invariant.1), c.requires.mv_len.2)
+    (omega (arith, lies (goal.at.store_row-requires c).In-loop-r, c.requires.mv_len.0, c.requires.mv_len.1, c.loop-r.auto.mv), c.requires.mv_len.2)
 
 pub loop-r-preserved : goal.loop-r-preserved
 unfolding always
 loop-r-preserved c =
     let l = c.loop-r in (
-      omega arith,
-      omega (arith, c.store_row.auto.mv),
-      omega (arith, c.mark_row.auto.marks),
-      owns-more _ _ _ _ _ _ l.r l.invariant.3 c.store_row.ensures,
-      rows_more _ _ _ _ (always 1) _ l.r l.invariant.4 c.mark_row.ensures,
+      owns-more _ _ _ _ _ _ l.r l.invariant.0 c.store_row.ensures,
+      rows_more _ _ _ _ (always 1) _ l.r l.invariant.1 c.mark_row.ensures,
     )
 
 pub returns : goal.returns
@@ -48,7 +45,7 @@ returns c =
     let a = c.args in
     let i = c.loop-r.invariant in
     let f = lent_field a.grid.cols a.grid.rows a.mv.now a.marks.now in
-    let e : c.loop-r.r ≡ 4 = omega arith in record { mv_after = i.3 ∙ rw e (rows-painted (pos 0) _ _ (pairs-inside (omega (arith, c.requires.mv_len.0, c.requires.mv_len.1)) (cells (goal.at.returns c).Start))) ∙ tiled-numbers a.call a.vectors.now f c.requires.within.1 c.requires.within.2 c.owners-whose.result c.owners-whose.ensures; marks_after = i.4 ∙ rw e (rows-painted 0 _ _ (cells (goal.at.returns c).Start)) ∙ tiled-marks a.call a.vectors.now f c.requires.within.1 c.requires.within.2 }
+    let e : c.loop-r.r ≡ 4 = omega arith in record { mv_after = i.0 ∙ rw e (rows-painted (pos 0) _ _ (pairs-inside (omega (arith, c.requires.mv_len.0, c.requires.mv_len.1)) (cells (goal.at.returns c).Start))) ∙ tiled-numbers a.call a.vectors.now f c.requires.within.1 c.requires.within.2 c.owners-whose.result c.owners-whose.ensures; marks_after = i.1 ∙ rw e (rows-painted 0 _ _ (cells (goal.at.returns c).Start)) ∙ tiled-marks a.call a.vectors.now f c.requires.within.1 c.requires.within.2 }
 
 pub overflow_mul-stride : goal.overflow_mul-stride
 overflow_mul-stride c = omega (arith, c.requires.within.0.wide)
@@ -76,9 +73,3 @@ overflow_shr-whose c = omega arith
 
 pub mark_row-requires : goal.mark_row-requires
 mark_row-requires c = omega (arith, lies (goal.at.mark_row-requires c).In-loop-r)
-
-pub overflow_add-r : goal.overflow_add-r
-overflow_add-r c = omega arith
-
-pub loop-r-smaller : goal.loop-r-smaller
-loop-r-smaller c = omega arith

@@ -12,17 +12,17 @@ use Rattle.apply.proofs.svq3_picture.store_row.Goals as goal
 
 pub loop-c-init : goal.loop-c-init
 unfolding row
-loop-c-init c = (omega arith, refl, refl)
+loop-c-init c = refl
 
 pub loop-c-preserved : goal.loop-c-preserved
 loop-c-preserved c =
     let l = c.loop-c in
-    (omega arith, simp length-set (omega arith), own-more _ _ _ _ l.c l.invariant.2 (back w32 c.vx-1.given refl) (back w32 c.vy-1.given refl))
+    own-more _ _ _ _ l.c l.invariant (back w32 c.vx-1.given refl) (back w32 c.vy-1.given refl)
 
 pub returns : goal.returns
 returns c =
     let e : c.loop-c.c ≡ 4 = omega arith in
-    c.loop-c.invariant.2 ∙ ap (λ (n : ℕ). row c.args.mv.now c.args.at (own_number c.args.vectors.now c.args.four) (2 * n)) e
+    c.loop-c.invariant ∙ ap (λ (n : ℕ). row c.args.mv.now c.args.at (own_number c.args.vectors.now c.args.four) (2 * n)) e
 
 pub overflow_mul-i : goal.overflow_mul-i
 overflow_mul-i c = omega arith
@@ -77,9 +77,3 @@ offset_bounds-mv-at-in-loop-c c = omega arith
 
 pub bounds-mv-at-in-loop-c : goal.bounds-mv-at-in-loop-c
 bounds-mv-at-in-loop-c c = simp length-set (omega arith)
-
-pub overflow_add-c : goal.overflow_add-c
-overflow_add-c c = omega arith
-
-pub loop-c-smaller : goal.loop-c-smaller
-loop-c-smaller c = omega arith

@@ -1,12 +1,8 @@
 -- `apply::svq3_recon::add_luma`: quadrant after quadrant.
 use mathlib.Core.Path.{◌≡◌}
-use Prim.Native.Nat.{◌-◌, ◌*◌, ◌≤◌}
-use lib.ListN.{length}
+use Prim.Native.Nat.{◌*◌}
 use Rattle.apply.specs.Blocks.{luma_up_to}
 use Rattle.apply.proofs.svq3_recon.add_luma.Given as goal
 
 abbrev pub invariant-loop-q : goal.invariant-loop-q
-invariant-loop-q l = (l.q ≤ 4) × (l.pic ≡ luma_up_to (4 * l.q) l.grid.cols l.head l.levels l.initial.pic) × (length l.pic ≡ length l.initial.pic)
-
-abbrev pub decreases-loop-q : goal.decreases-loop-q
-decreases-loop-q l = 4 - l.q
+invariant-loop-q l = l.pic ≡ luma_up_to (4 * l.q) l.grid.cols l.head l.levels l.initial.pic
