@@ -23,17 +23,6 @@ use Rattle.printing.specs.Text.{hex_digit, hex_bytes, hex_line, digits, decimal,
 pub written_one : (out : List ℕ) (p v : ℕ) → Written out p (v ∷ []) (p + 1) (set out p v)
 written_one out p v = record { moved = refl; leaves = refl }
 
--- ---- bytes as they are
-module _ (bytes : List ℕ) (i : ℕ) (h : i < length bytes) {out₀ : List ℕ} {at p : ℕ} {out all : List ℕ} (s : Still out₀ at all out p (drop i bytes)) where
-  first_byte : drop i bytes ≡ (get_or bytes i 0 ∷ []) ++ drop (i + 1) bytes
-  first_byte = rw (add-one i, drop-cons bytes i 0 h)
-
-  pub byte_fits : at + length all ≤ length out₀ → p < length out
-  byte_fits k = let f = still-fits s (get_or bytes i 0 ∷ []) (drop (i + 1) bytes) first_byte k in omega arith
-
-  pub byte_more : Still out₀ at all (set out p (get_or bytes i 0)) (p + 1) (drop (i + 1) bytes)
-  byte_more = still-more s {a = get_or bytes i 0 ∷ []} first_byte (written_one out p (get_or bytes i 0))
-
 -- ---- two digits a byte
 abbrev hex_of : ℕ → List ℕ
 hex_of b = hex_digit (b / 16) ∷ hex_digit (b % 16) ∷ []

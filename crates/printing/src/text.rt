@@ -17,12 +17,9 @@ fn put_bytes(out: &mut [u8], bytes: &[u8], at: usize) -> usize
     requires { at + length bytes.now ≤ length out.old }
     ensures { Written out.old at bytes.now result out.new }
 {
-    let mut i = 0;
-    while i < bytes.len() {
-        out[at + i] = bytes[i];
-        i += 1;
-    }
-    at + i
+    let end = at + bytes.len();
+    out[at..end].copy_from_slice(bytes);
+    end
 }
 
 // Bytes in hexadecimal, on a line.
@@ -31,13 +28,10 @@ pub fn put_hex_line(out: &mut [u8], bytes: &[u8], at: usize) -> usize
     ensures { Written out.old at (hex_line bytes.now) result out.new }
 {
     let mut p = at;
-    let mut i = 0;
-    while i < bytes.len() {
-        let b = bytes[i];
+    for b in bytes {
         out[p] = hex_digit(b / 16);
         out[p + 1] = hex_digit(b % 16);
         p += 2;
-        i += 1;
     }
     out[p] = b'\n';
     p + 1
