@@ -1,9 +1,10 @@
 // A macroblock, decoded by value or by the thin entry.
 use crate::head::Film;
-use macroblock::cursor_by;
 use macroblock::svq3_frame::decode_inter_mb;
+use macroblock::{MbReport, cursor_by};
+use refusal::Refusal;
 use state::{Call, Cursor, Frame};
-use thin::moved::{MbMoved, decode_moved};
+use thin::svq3_frame::decode_inter_mb_at;
 use transcript::check::check_record;
 use transcript::parse::{RecordStart, parse_place};
 
@@ -12,9 +13,8 @@ fn stands_at(cursor: Cursor, expected: Cursor) -> bool {
 }
 
 // A refusal leaves the cursor where the call found it.
-fn answered(got: MbMoved, film: &Film) -> bool {
-    let cursor = got.cursor;
-    match got.answer {
+fn answered(answer: Result<MbReport, Refusal>, cursor: Cursor, film: &Film) -> bool {
+    match answer {
         Ok(report) => {
             film.refusal.is_none()
                 & (report.place == film.after.place)
@@ -26,6 +26,7 @@ fn answered(got: MbMoved, film: &Film) -> bool {
     }
 }
 
+// The answer, and where the call leaves the cursor.
 fn decode(
     y: &mut [u8],
     cb: &mut [u8],
@@ -39,22 +40,34 @@ fn decode(
     bits: &[u8],
     frame: Frame,
     call: Call,
-    quantiser: u32,
-    place: usize,
+    mut cursor: Cursor,
     fill: usize,
     thin: bool,
-) -> MbMoved {
+) -> (Result<MbReport, Refusal>, Cursor) {
     if thin {
-        return decode_moved(
-            y, cb, cr, mv, marks, transcript, ry, rcb, rcr, bits, frame, call, quantiser, place,
+        let answer = decode_inter_mb_at(
+            y,
+            cb,
+            cr,
+            mv,
+            marks,
+            transcript,
+            ry,
+            rcb,
+            rcr,
+            bits,
+            &mut cursor,
+            frame,
+            call,
             fill,
         );
+        return (answer, cursor);
     }
+    let Cursor { place, quantiser } = cursor;
     let answer = decode_inter_mb(
         y, cb, cr, mv, marks, transcript, ry, rcb, rcr, bits, frame, call, quantiser, place, fill,
     );
-    let cursor = cursor_by(place, quantiser, answer);
-    MbMoved { answer, cursor }
+    (answer, cursor_by(place, quantiser, answer))
 }
 
 // Whether the macroblock is answered as the head says.
@@ -73,8 +86,7 @@ pub fn agrees(
     call: Call,
     thin: bool,
 ) -> bool {
-    let before = film.before;
-    let got = decode(
+    let (answer, cursor) = decode(
         y,
         cb,
         cr,
@@ -87,12 +99,11 @@ pub fn agrees(
         bits,
         film.frame,
         call,
-        before.quantiser,
-        before.place,
+        film.before,
         film.used,
         thin,
     );
-    answered(got, film)
+    answered(answer, cursor, film)
 }
 
 // Column, row and mode of the record are the call's.

@@ -1,10 +1,10 @@
 // A run, made by value or by the thin entry.
 use crate::head::Film;
 use refusal::Refusal;
+use run::Report;
 use run::run::run;
-use state::Frame;
-use thin::cursor_of;
-use thin::moved::{RunMoved, run_moved};
+use state::{Cursor, Frame};
+use thin::{cursor_of, run_at};
 
 fn stopped(stop: Result<(), Refusal>, film: &Film) -> bool {
     match stop {
@@ -13,9 +13,7 @@ fn stopped(stop: Result<(), Refusal>, film: &Film) -> bool {
     }
 }
 
-fn reported(got: RunMoved, film: &Film, accepted: usize, consumed: usize) -> bool {
-    let report = got.report;
-    let cursor = got.cursor;
+fn reported(report: Report, cursor: Cursor, film: &Film, accepted: usize, consumed: usize) -> bool {
     let after = film.after;
     (report.accepted == accepted)
         & (report.consumed == consumed)
@@ -27,6 +25,7 @@ fn reported(got: RunMoved, film: &Film, accepted: usize, consumed: usize) -> boo
         & stopped(report.stop, film)
 }
 
+// The report, and where the run leaves the cursor.
 fn make_run(
     y: &mut [u8],
     cb: &mut [u8],
@@ -40,20 +39,32 @@ fn make_run(
     bits: &[u8],
     list: &[u8],
     frame: Frame,
-    quantiser: u32,
-    place: usize,
+    mut cursor: Cursor,
     thin: bool,
-) -> RunMoved {
+) -> (Report, Cursor) {
     if thin {
-        return run_moved(
-            y, cb, cr, mv, marks, transcript, ry, rcb, rcr, bits, list, frame, quantiser, place,
+        let report = run_at(
+            y,
+            cb,
+            cr,
+            mv,
+            marks,
+            transcript,
+            ry,
+            rcb,
+            rcr,
+            bits,
+            list,
+            &mut cursor,
+            frame,
         );
+        return (report, cursor);
     }
+    let Cursor { place, quantiser } = cursor;
     let report = run(
         y, cb, cr, mv, marks, transcript, ry, rcb, rcr, bits, list, frame, quantiser, place,
     );
-    let cursor = cursor_of(report);
-    RunMoved { report, cursor }
+    (report, cursor_of(report))
 }
 
 // Whether the run is reported as the head says.
@@ -74,8 +85,7 @@ pub fn agrees(
     consumed: usize,
     thin: bool,
 ) -> bool {
-    let before = film.before;
-    let got = make_run(
+    let (report, cursor) = make_run(
         y,
         cb,
         cr,
@@ -88,9 +98,8 @@ pub fn agrees(
         bits,
         list,
         film.frame,
-        before.quantiser,
-        before.place,
+        film.before,
         thin,
     );
-    reported(got, film, accepted, consumed)
+    reported(report, cursor, film, accepted, consumed)
 }

@@ -1,6 +1,5 @@
 #![tactic(auto)]
 // One macroblock, and a run, from the caller's own record of place and quantiser, which moves on.
-pub mod moved;
 pub mod svq3_frame;
 
 ghost use Rattle.std.specs.Prelude.{◌≡◌};
@@ -47,8 +46,6 @@ pub fn run_at(
     let report = run(
         y, cb, cr, mv, marks, transcript, ry, rcb, rcr, bits, list, frame, quantiser, place,
     );
-    let next = cursor_of(report);
-    cursor.place = next.place;
-    cursor.quantiser = next.quantiser;
+    *cursor = cursor_of(report);
     report
 }

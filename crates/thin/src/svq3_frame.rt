@@ -34,8 +34,6 @@ pub fn decode_inter_mb_at(
     let answer = decode_inter_mb(
         y, cb, cr, mv, marks, transcript, ry, rcb, rcr, bits, frame, call, quantiser, place, fill,
     );
-    let next = cursor_by(place, quantiser, answer);
-    cursor.place = next.place;
-    cursor.quantiser = next.quantiser;
+    *cursor = cursor_by(place, quantiser, answer);
     answer
 }
