@@ -41,7 +41,7 @@ pub fn add_luma(pic: &mut [u8], levels: &[i32], grid: Grid, head: Head)
     }
 }
 
-// The four blocks of a chroma plane, Cb 0 or Cr 1, in a square. Without AC levels each has its DC alone.
+// The four blocks of a chroma plane, Cb 0 or Cr 1 (a number: places of levels are reckoned with it), in a square. Without AC levels each has its DC alone.
 fn add_square(pic: &mut [u8], s: Square, levels: &[i32], plane: usize, q: u32, ac: bool)
     requires inside { SquareIn s 8 (length pic.old) × (length levels.now ≡ 392) × (plane < 2) × (q ≤ 31) }
     requires pos_value { ac ≡ false → (n : ℕ) → n < 64 → get_or levels.now (264 + 64 * plane + n) (pos 0) ≡ pos 0 }

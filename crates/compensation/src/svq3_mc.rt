@@ -53,7 +53,7 @@ fn lies_in(first: i64, n: usize, side: usize) -> bool
     (0 <= first) & (first <= (side as i64) - (n as i64))
 }
 
-// The taps of the w × h block at (x, y) of a plane with the vector (vx, vy).
+// The taps of the w × h block at (x, y) of a plane with the vector (vx, vy). Place and vector come as numbers from the C entry, and are taken apart here: a struct of the four would live for a call.
 pub fn taps_of(w: usize, h: usize, size: Size, x: i32, y: i32, vx: i32, vy: i32) -> Taps
     requires { Span w h × (0 < size.width) × (size.width ≤ 65536) × (0 < size.height) × (size.height ≤ 65536) }
     ensures placed { Placed x y vx vy result.ox result.oy result.phases.px result.phases.py }

@@ -42,7 +42,7 @@ pub fn luma_quadrant_coded(cbp: u8, quadrant: u32) -> bool
     ((cbp % 16) >> quadrant) % 2 == 1
 }
 
-// 0: no chroma levels; 1: chroma DC; 2: chroma DC and AC.
+// 0: no chroma levels; 1: chroma DC; 2: chroma DC and AC. A number, as the document counts them: it is asked by < and ==, and an enum would only be one more conversion.
 pub fn chroma_class(cbp: u8) -> u8
     ensures { result ≡ class_of cbp }
 {

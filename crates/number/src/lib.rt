@@ -61,6 +61,7 @@ pub fn put_number(out: &mut [u8], at: usize, v: u32) -> usize
 {
     let mut rest = v;
     let mut p = at;
+    // what is left says whether a byte follows: no range counts them
     while 128 <= rest {
         out[p] = (rest % 128 + 128) as u8;
         rest = rest / 128;

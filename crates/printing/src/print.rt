@@ -25,6 +25,7 @@ fn put_records(out: &mut [u8], transcript: &[u8], at: usize, grid: Grid) -> usiz
 {
     let mut p = at;
     let mut i = 0;
+    // a record says where the next one begins: no range counts them
     while i < transcript.len() {
         let Ok(next) = check_record(transcript, i, grid) else {
             return p;

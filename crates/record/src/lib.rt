@@ -9,7 +9,7 @@ pub struct Head {
     pub column: u32,
     pub row: u32,
     pub mode: u32,
-    // 0 full, 1 half, 2 third
+    // 0 full, 1 half, 2 third. The transcript's number and no enum: between its reader and its writer nothing looks at it.
     pub precision: u32,
     // how many components of its vectors had to be held in i32
     pub clipped: u32,
@@ -37,13 +37,9 @@ pub fn with_motion(head: Head, precision: u32, clipped: u32) -> Head
     ensures { result ≡ with_motion head precision clipped }
 {
     Head {
-        column: head.column,
-        row: head.row,
-        mode: head.mode,
         precision,
         clipped,
-        pattern: head.pattern,
-        quantiser: head.quantiser,
+        ..head
     }
 }
 
@@ -51,12 +47,8 @@ pub fn with_residual(head: Head, pattern: u32, quantiser: u32) -> Head
     ensures { result ≡ with_residual head pattern quantiser }
 {
     Head {
-        column: head.column,
-        row: head.row,
-        mode: head.mode,
-        precision: head.precision,
-        clipped: head.clipped,
         pattern,
         quantiser,
+        ..head
     }
 }

@@ -32,6 +32,7 @@ fn replay_records(
 {
     let mut q = quantiser;
     let mut at = 0;
+    // a record says where the next one begins: no range counts them
     while at < bytes.len() {
         let step = replay_record(y, cb, cr, mv, marks, ry, rcb, rcr, bytes, frame, q, at);
         q = step.quantiser;

@@ -24,6 +24,7 @@ pub fn check_calls(list: &[u8]) -> Result<usize, Refusal>
 {
     let mut at = 0;
     let mut count: usize = 0;
+    // a call says where the next one begins: no range counts them
     while at < list.len() {
         let (_, next) = read_call(list, at)?;
         at = next;

@@ -37,6 +37,7 @@ fn run_calls(
     let mut accepted = 0;
     let mut consumed = 0;
     let mut at = 0;
+    // a call says where the next one begins: no range counts them
     while at < list.len() {
         let Ok((call, next)) = read_call(list, at) else {
             return report_of(accepted, consumed, p, q, fill, Err(Refusal::NumberForm));

@@ -11,6 +11,7 @@ use refusal::Refusal;
 pub struct Call {
     pub column: u32,
     pub row: u32,
+    // a number, as C gives it: question 5 refuses what is no mode, and tables are read by it
     pub mode: u32,
 }
 

@@ -41,6 +41,7 @@ pub fn check_records(bytes: &[u8], grid: Grid) -> Result<usize, Refusal>
 {
     let mut at = 0;
     let mut count: usize = 0;
+    // a record says where the next one begins: no range counts them
     while at < bytes.len() {
         at = check_record(bytes, at, grid)?;
         count += 1;

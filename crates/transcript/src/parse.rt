@@ -171,6 +171,7 @@ fn parse_items(levels: &mut [i32], bytes: &[u8], at: usize, pattern: u8) -> Resu
 {
     let mut p = at;
     let mut i = 0;
+    // a list that is not coded leaps to the end of its group: no range has these steps
     while i < 26 {
         if item_coded(pattern, i) {
             p = parse_item(levels, bytes, p, i)?;

@@ -101,7 +101,7 @@ pub enum Svq3MvPrecision {
     Thirdpel,
 }
 
-// The number of a precision in a transcript.
+// The number of a precision in a transcript, by its definition's name: `From` would not say which number.
 pub fn precision_number(p: Svq3MvPrecision) -> u32
     ensures { result ≡ precision_number p }
 {
