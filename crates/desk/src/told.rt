@@ -1,8 +1,8 @@
 // What a C caller is told: the answer as one number, and the counts.
-ghost use Rattle.std.specs.Prelude.{◌≡◌, [], ◌∷◌, ◌≤◌, length};
+ghost use Rattle.std.specs.Prelude.{◌≡◌, ◌≤◌, length};
 ghost use Rattle.std.proofs.lemmas.List.Edits.{sets};
 ghost use Rattle.desk.specs.Answer.{refusal_code, done_code};
-ghost use Rattle.desk.specs.Counts.{word_of, mb_counts, run_counts, replay_counts};
+ghost use Rattle.desk.specs.Counts.{mb_counts, run_counts, replay_counts};
 
 use macroblock::MbReport;
 use refusal::{Refusal, detail_of, number_of};
@@ -16,34 +16,12 @@ pub fn refused(why: Refusal) -> i64
     -(number_of(why) as i64)
 }
 
-// Two's complement.
-fn word(z: i64) -> u64
-    ensures { result ≡ word_of z }
+// The counts told, from the first on.
+fn put<const N: usize>(counts: &mut [u64], told: &[u64; N])
+    requires { N ≤ length counts.old }
+    ensures { counts.new ≡ sets counts.old 0 told.now }
 {
-    if z < 0 {
-        0xffff_ffff_ffff_ffff - ((-(z + 1)) as u64)
-    } else {
-        z as u64
-    }
-}
-
-fn put_two(counts: &mut [u64], a: u64, b: u64)
-    requires { 2 ≤ length counts.old }
-    ensures { counts.new ≡ sets counts.old 0 (a ∷ b ∷ []) }
-{
-    counts[0] = a;
-    counts[1] = b;
-}
-
-fn put_five(counts: &mut [u64], a: u64, b: u64, c: u64, d: u64, e: u64)
-    requires { 5 ≤ length counts.old }
-    ensures { counts.new ≡ sets counts.old 0 (a ∷ b ∷ c ∷ d ∷ e ∷ []) }
-{
-    counts[0] = a;
-    counts[1] = b;
-    counts[2] = c;
-    counts[3] = d;
-    counts[4] = e;
+    counts[..N].copy_from_slice(told);
 }
 
 pub fn tell_macroblock(
@@ -58,19 +36,19 @@ pub fn tell_macroblock(
 {
     match answer {
         Ok(report) => {
-            put_five(
-                counts,
+            let told = [
                 report.place as u64,
                 report.quantiser as u64,
                 report.fill as u64,
                 report.clipped as u64,
                 0,
-            );
+            ];
+            put(counts, &told);
             0
         }
         Err(why) => {
-            let detail = word(detail_of(why));
-            put_five(counts, place, quantiser as u64, fill, 0, detail);
+            let detail = detail_of(why).cast_unsigned();
+            put(counts, &[place, quantiser as u64, fill, 0, detail]);
             refused(why)
         }
     }
@@ -87,12 +65,12 @@ pub fn tell_run(counts: &mut [u64], report: Report) -> i64
     let stop = report.stop;
     match stop {
         Ok(()) => {
-            put_five(counts, accepted, consumed, fill, quantiser, 0);
+            put(counts, &[accepted, consumed, fill, quantiser, 0]);
             0
         }
         Err(why) => {
-            let detail = word(detail_of(why));
-            put_five(counts, accepted, consumed, fill, quantiser, detail);
+            let detail = detail_of(why).cast_unsigned();
+            put(counts, &[accepted, consumed, fill, quantiser, detail]);
             refused(why)
         }
     }
@@ -104,11 +82,11 @@ pub fn tell_replay(counts: &mut [u64], answer: Result<ReplayReport, Refusal>, qu
 {
     match answer {
         Ok(report) => {
-            put_two(counts, report.records as u64, report.quantiser as u64);
+            put(counts, &[report.records as u64, report.quantiser as u64]);
             0
         }
         Err(why) => {
-            put_two(counts, 0, quantiser as u64);
+            put(counts, &[0, quantiser as u64]);
             refused(why)
         }
     }
