@@ -97,7 +97,7 @@ pub fn compensate_luma(pic: &mut [u8], reference: &[u8], vectors: &[i32], grid: 
     }
 }
 
-// Partition i of both chroma planes: they read the same taps. Luma has its own form: a function over any number of planes takes an array of `&mut`, which the check does not cover.
+// Partition i of both chroma planes: they read the same taps. Luma has a form of its own, for the reason that compensation's tiles give.
 fn compensate_pair(
     cb: &mut [u8],
     cr: &mut [u8],

@@ -61,6 +61,7 @@ fn half_of(code: u32) -> u32
     code / 2 + code % 2
 }
 
+// Not one function with the next one: behind the escape a level is reckoned otherwise, not from other numbers.
 fn normal_level_run(code: u32) -> (i32, u32)
     ensures { result ≡ (level ResidualBook.NormalScan code, run ResidualBook.NormalScan code) }
 {
@@ -236,7 +237,7 @@ fn decode_list(
     }
 }
 
-// A 4×4 block's list, from position 0, or from 1 where only the AC levels are sent.
+// A 4×4 block's list, from position 0, or from 1 where only the AC levels are sent. It and the next one are `decode_list` by the Rust's names.
 pub fn decode_residual_4x4_normal(
     out: &mut [i32],
     base: usize,
