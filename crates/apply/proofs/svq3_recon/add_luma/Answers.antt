@@ -1,5 +1,5 @@
 -- `apply::svq3_recon::add_luma`: quadrant after quadrant.
-use mathlib.Core.Path.{◌≡◌, refl, ap, ◌∙◌}
+use mathlib.Core.Path.{◌≡◌, ap, ◌∙◌}
 use Prim.Native.Nat.{ℕ, ◌*◌}
 use native.Mathlib.Omega.{arith}
 use Rattle.apply.specs.Blocks.{luma_up_to}
