@@ -228,33 +228,6 @@ fits-between w (negsuc a) k e f t = absurd (subst T e tt)
 pub cast_unsigned : (w : Width) {z : ℤ} {m : ℕ} → z ≡ pos m → m < 2 ^ bits w → T (non_neg z) × Fits w (nat_abs z)
 cast_unsigned w e l = subst (λ (z : ℤ). T (non_neg z) × Fits w (nat_abs z)) (sym e) (tt, record { fits = l })
 
-pub abs-back : (z : ℤ) → lt_z z (pos 0) ≡ false → pos (nat_abs z) ≡ z
-abs-back (pos a) e = refl
-abs-back (negsuc a) e = absurd (subst T e tt)
-
--- ---- a test on what the machine reads back, said of the numbers
-module _ (w : Width) (x y : ℤ) (t : Bool) where
-  pub lt-plain : lt_z (to_z w (of_z w x)) (to_z w (of_z w y)) ≡ t → SFits w x → SFits w y → lt_z x y ≡ t
-  lt-plain e f g = simp to_z-of_z at e
-
-  pub lt-plain-l : lt_z (to_z w (of_z w x)) y ≡ t → SFits w x → lt_z x y ≡ t
-  lt-plain-l e f = simp to_z-of_z at e
-
-  pub lt-plain-r : lt_z x (to_z w (of_z w y)) ≡ t → SFits w y → lt_z x y ≡ t
-  lt-plain-r e f = simp to_z-of_z at e
-
-  pub le-plain : le_z (to_z w (of_z w x)) (to_z w (of_z w y)) ≡ t → SFits w x → SFits w y → le_z x y ≡ t
-  le-plain e f g = simp to_z-of_z at e
-
-  pub le-plain-l : le_z (to_z w (of_z w x)) y ≡ t → SFits w x → le_z x y ≡ t
-  le-plain-l e f = simp to_z-of_z at e
-
-  pub le-plain-r : le_z x (to_z w (of_z w y)) ≡ t → SFits w y → le_z x y ≡ t
-  le-plain-r e f = simp to_z-of_z at e
-
-pub fits-plain : (w w' : Width) (z : ℤ) → SFits w' (to_z w (of_z w z)) → SFits w z → SFits w' z
-fits-plain w w' z h f = simp to_z-of_z at h
-
 pub if_yes : {A : Type 0} (t : Bool) (x y : A) → t ≡ true → (when t then x else y) ≡ x
 unfolding when◌then◌else◌
 if_yes t x y e = simp e

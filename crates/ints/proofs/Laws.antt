@@ -12,11 +12,11 @@ use lib.Signed.{mag, lt_z}
 use mir.Syntax.{Width, w32}
 use mir.Val.{SFits}
 use mir.Facts.{to_z-of_z}
-use Rattle.ints.specs.Z.{clamp_z, sat_z, over_z, clip1_z, floor_z, mod_z, least_i32, most_i32}
+use Rattle.ints.specs.Z.{clamp_z, sat_z, over_z, floor_z, mod_z, least_i32, most_i32}
 use Rattle.ints.specs.InnerHeld.{held_z}
 use Rattle.ints.specs.declared.Held.{Held}
 use Rattle.ints.proofs.Fits.{read}
-use Rattle.ints.proofs.Linear.{up, down, z-rules, add-z, diff-z, times-z, mag-z, min-z, clamp-z, sat-z, clip1-z, floor-z}
+use Rattle.ints.proofs.Linear.{up, down, z-rules, add-z, diff-z, times-z, mag-z, min-z, clamp-z, sat-z, floor-z}
 
 -- ---- held in a range
 module _ (lo hi z : ℤ) (h : lt_z hi lo ≡ false) where
@@ -51,10 +51,6 @@ no-over {z} h =
 
 pub over-sat : (z : ℤ) → (over_z z ≡ false) ↔ (sat_z z ≡ z)
 over-sat z = (λ e. sat-same (over_no z e), λ e. no-over (subst (SFits w32) e (sat-fits z)))
-
--- ---- a sample
-pub clip1-le : (z : ℤ) → clip1_z z ≤ 255
-clip1-le z = omega (arith, clip1-z z)
 
 -- ---- multiples
 times-add : (k : ℕ) (a b : ℤ) → pos k *ℤ (a +ℤ b) ≡ pos k *ℤ a +ℤ pos k *ℤ b

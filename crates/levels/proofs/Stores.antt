@@ -5,10 +5,8 @@ use mathlib.Core.List.{List, [], ◌∷◌, ◌++◌}
 use Prim.Native.Nat.{ℕ, zero, suc, ◌+◌, ◌<◌}
 use native.Mathlib.Nat.{add-zero}
 use native.Mathlib.Omega.{arith}
-use lib.IntN.{ℤ, pos}
-use lib.ListN.{length, set, length-replicate, replicate-append-replicate}
+use lib.ListN.{length, set}
 use lib.Seq.{sets, set-set, set_comm}
-use Rattle.levels.specs.Levels.{zeros}
 
 module _ {A : Type 0} where
   sets-snoc : (l : List A) (b : ℕ) (xs : List A) (v : A) → sets l b (xs ++ v ∷ []) ≡ set (sets l b xs) (b + length xs) v
@@ -35,8 +33,3 @@ module _ {A : Type 0} where
   sets_over l b (x ∷ xs) [] e = absurd (omega arith)
   sets_over l b (x ∷ xs) (y ∷ ys) e =
       ap (λ (m : List A). sets m (suc b) ys) (set_before (set l b x) (suc b) xs b y (omega arith) ∙ ap (λ (m : List A). sets m (suc b) xs) (set-set l b x y)) ∙ sets_over (set l b y) (suc b) xs ys (omega arith)
-
--- one more zero
-pub cleared_more : (l : List ℤ) (b i : ℕ) → set (sets l b (zeros i)) (b + i) (pos 0) ≡ sets l b (zeros (i + 1))
-cleared_more l b i =
-    sym (ap (sets l b) (sym (replicate-append-replicate i 1 (pos 0))) ∙ sets-snoc l b (zeros i) (pos 0) ∙ ap (λ (k : ℕ). set (sets l b (zeros i)) (b + k) (pos 0)) (length-replicate i (pos 0)))

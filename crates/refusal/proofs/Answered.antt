@@ -41,7 +41,7 @@ answered-map f at g x next e = go (answered-got at g x next e)
 pub refused-map : {X Y : Type 0} (f : X → Y) (at : ℕ) (g : Got X) (r : Refusal) → Err r ≡ answered at g → Err r ≡ answered at (map_got f g)
 refused-map f at g r e = rw (answered-refused at g r e)
 
--- a `?` hands on the refusal that it meets
+-- a `?` returns the refusal that it meets
 pub handed : {X : Type 0} (r : Result X Refusal) (why : Refusal) → IsErr r × IsErrAnd r (λ q. q ≡ why) → r ≡ Err why
 handed (Ok x) why k = absurd k.1
 handed (Err q) why k = ap Err k.1

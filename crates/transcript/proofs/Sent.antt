@@ -39,12 +39,6 @@ short-each t (suc n) e k h =
     rw j (leb-true 64 (get_or t n 0) b.1, ltb-true (get_or t n 0) 192 a.1))
     (lt-or-le k n)
 
--- ---- a number held in -128 to 127
-pub held_small : (z : ℤ) → held_of z < 256
-unfolding held_of
-held_small (pos n) = omega arith
-held_small (negsuc n) = omega arith
-
 -- ---- what they are sent as
 short-sent : (z : ℤ) → 64 ≤ held_of z → held_of z < 192 → (sent_short (held_of z) < 128) × (sent_short (held_of z) ≡ sent z)
 unfolding held_of sent_short sent when◌then◌else◌

@@ -50,10 +50,6 @@ pub on-place : (x y s n : ℕ) → 1 ≤ x → 1 ≤ y → x ≤ s → y * s ≤
 on-place x zero s n a b c d = absurd (omega arith)
 on-place x (suc y) s n a b c d = rw (sub-one (suc y)) (omega (arith, suc-mul y s))
 
--- and so do a macroblock's columns and the next one's
-pub whole-place : (cols column y n : ℕ) → 0 < y → column + 1 < cols → y * (4 * cols) ≤ n → (y - 1) * (4 * cols) + (4 * column + 8) ≤ n
-whole-place cols column y n b l h = omega (arith, on-place (4 * column + 8) y (4 * cols) n (omega arith) b (omega arith) h)
-
 module _ (cols rows : ℕ) (mv : List ℤ) (marks : List ℕ) where
   pub off-missing : (x y : ℕ) → off cols x y ≡ true → above_left_of (lent_field cols rows mv marks) x y ≡ None
   unfolding above_left_of left_of near_at
