@@ -113,6 +113,11 @@ inside-rows {s} {x} {y} {w} {h} r t i le =
     let d : (y + r + t) * s ≤ (y + h) * s = mul-le-mul_right s (omega arith) in
     record { some = i.some; across = i.across; down = le_trans d i.down }
 
+-- a tile that is the whole block
+pub tile-whole : {l' : List ℕ} (l t : List ℕ) (s x y at w h : ℕ) (value : ℕ → ℕ → ℕ) → Holds t at w h value → l' ≡ painted s x y w h (tiled t at w) l → l' ≡ painted s x y w h value l
+unfolding Holds
+tile-whole l t s x y at w h value holds stored = stored ∙ painted-values s x y w h (tiled t at w) value l holds
+
 -- turn i of a loop by tiles of t rows: how far its rows lie, and that its tile lies in the plane
 pub tile-turn : {s x y w h size n i : ℕ} (t stride : ℕ) → Inside s x y w h size → n ≡ size → i < h / t → (i * t * stride + t * stride ≤ h * stride) × (y + i * t ≤ size) × Inside s x (y + i * t) w t n
 tile-turn {s} {x} {y} {w} {h} {size} {n} {i} t stride inside e l =
