@@ -4,25 +4,23 @@ ghost use Rattle.picture.specs.Picture.{copied};
 ghost use Rattle.picture.specs.InnerPicture.{Within, Sized};
 
 use crate::rows::copy_block;
-use crate::{Block, Grid};
+use crate::{Block, Grid, Reference};
 
 pub fn copy_macroblock_from(
-    luma: &mut [u8],
+    y: &mut [u8],
     cb: &mut [u8],
     cr: &mut [u8],
-    rluma: &[u8],
-    rcb: &[u8],
-    rcr: &[u8],
+    reference: Reference,
     grid: Grid,
     column: usize,
     row: usize,
 )
     requires within { Within grid.cols grid.rows column row }
-    requires sized { Sized grid.cols grid.rows (length luma.old) (length cb.old) (length cr.old) }
-    requires sized_2 { Sized grid.cols grid.rows (length rluma.now) (length rcb.now) (length rcr.now) }
-    ensures luma_after { luma.new ≡ copied luma.old (16 * grid.cols) (16 * column) (16 * row) 16 16 rluma.now }
-    ensures cb_after { cb.new ≡ copied cb.old (8 * grid.cols) (8 * column) (8 * row) 8 8 rcb.now }
-    ensures cr_after { cr.new ≡ copied cr.old (8 * grid.cols) (8 * column) (8 * row) 8 8 rcr.now }
+    requires sized { Sized grid.cols grid.rows (length y.old) (length cb.old) (length cr.old) }
+    requires sized_2 { Sized grid.cols grid.rows (length reference.y.now) (length reference.cb.now) (length reference.cr.now) }
+    ensures y_after { y.new ≡ copied y.old (16 * grid.cols) (16 * column) (16 * row) 16 16 reference.entry.y.now }
+    ensures cb_after { cb.new ≡ copied cb.old (8 * grid.cols) (8 * column) (8 * row) 8 8 reference.entry.cb.now }
+    ensures cr_after { cr.new ≡ copied cr.old (8 * grid.cols) (8 * column) (8 * row) 8 8 reference.entry.cr.now }
 {
     let in_luma = Block {
         stride: 16 * grid.cols,
@@ -38,7 +36,7 @@ pub fn copy_macroblock_from(
         w: 8,
         h: 8,
     };
-    copy_block(luma, rluma, in_luma);
-    copy_block(cb, rcb, in_chroma);
-    copy_block(cr, rcr, in_chroma);
+    copy_block(y, reference.y, in_luma);
+    copy_block(cb, reference.cb, in_chroma);
+    copy_block(cr, reference.cr, in_chroma);
 }
