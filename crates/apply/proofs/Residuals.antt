@@ -3,12 +3,12 @@
 use mathlib.Core.Path.{◌≡◌, refl, sym, ap, ◌∙◌}
 use mathlib.Core.Bool.{Bool, true, false}
 use mathlib.Core.List.{List}
-use Prim.Native.Nat.{ℕ, suc, ◌+◌, ◌*◌, ◌/◌, ◌%◌, ◌≤◌, ◌<◌}
+use Prim.Native.Nat.{ℕ, suc, ◌+◌, ◌-◌, ◌*◌, ◌/◌, ◌%◌, ◌≤◌, ◌<◌}
 use native.Mathlib.Nat.{mul-le-mul_right, le_trans}
 use native.Mathlib.Omega.{arith}
 use lib.Dec.{eqb, lit<, eqb→eq}
 use lib.IntN.{ℤ, pos, ◌*ℤ◌}
-use lib.ListN.{get_or, take, drop, get_or-replicate}
+use lib.ListN.{length, get_or, take, drop, get_or-replicate}
 use lib.Seq.{get_or-take, get_or-drop}
 use Rattle.ints.specs.Z.{when◌then◌else◌, sat_z}
 use Rattle.picture.specs.Painted.{Inside}
@@ -152,3 +152,7 @@ dc-square plane stride x y q levels dc pic none e =
 
     block : (b : ℕ) → b < 4 → residual (chroma_coeff q) (get_or dc b (pos 0)) no_levels ≡ residual (chroma_coeff q) (get_or (chroma_dc (chroma_coeff q) levels (256 + 4 * plane)) b (pos 0)) (placed levels (264 + 64 * plane + 16 * b))
     block b l = same-residual (chroma_coeff q) (get_or dc b (pos 0)) (empty b l) ∙ ap (λ (d : List ℤ). residual (chroma_coeff q) (get_or d b (pos 0)) (placed levels (264 + 64 * plane + 16 * b))) e
+
+-- the levels from place n on, as many as there are
+pub all-levels : {A : Type 0} (f : List ℤ → A) (n : ℕ) (l : List ℤ) → length l ≡ 392 → f (take (392 - n) (drop n l)) ≡ f (take (length l - n) (drop n l))
+all-levels f n l e = ap (λ (k : ℕ). f (take (k - n) (drop n l))) (sym e)

@@ -1,7 +1,6 @@
 // Compensation of each partition of a macroblock, in one plane.
 ghost use Rattle.std.specs.Prelude.{◌≡◌, true, false, ◌/◌, ◌<◌, ◌≤◌, pos, length};
 ghost use Rattle.ints.specs.Z.{toward_zero};
-ghost use Rattle.picture.specs.InnerPicture.{Within};
 ghost use Rattle.compensation.specs.InnerBlock.{Span};
 ghost use Rattle.compensation.specs.InnerTaps.{Placed, TapsIn};
 ghost use Rattle.vectors.specs.Modes.{num_motion_vectors};
@@ -10,8 +9,8 @@ ghost use Rattle.apply.specs.InnerMoved.{PlanesSized, part_block};
 
 use compensation::plane::Plane;
 use compensation::svq3_mc::{Taps, compensate_both, compensate_taps, taps_of};
-use picture::{Block, Grid, Size};
-use state::Call;
+use picture::{Block, Reference, Size};
+use state::Macroblock;
 use vectors::svq3_mb::{
     num_motion_vectors, partition_height, partition_offset_x, partition_offset_y, partition_width,
 };
@@ -31,15 +30,15 @@ fn vector_over(chroma: bool, component: i32) -> i32
 }
 
 // Where partition i lies in a plane of a picture of that grid.
-fn block_of(call: Call, grid: Grid, chroma: bool, i: usize) -> Block
-    requires { (grid.cols ≤ 4096) × (call.mode ≤ 7) × (i < num_motion_vectors call.mode) }
-    ensures { result ≡ part_block (unit chroma) grid.cols call i }
+fn block_of(mb: Macroblock, chroma: bool, i: usize) -> Block
+    requires { i < num_motion_vectors mb.call.mode }
+    ensures { result ≡ part_block (unit chroma) mb.grid.cols mb.call i }
 {
-    let mode = call.mode;
-    let column = call.column as usize;
-    let row = call.row as usize;
+    let mode = mb.call.mode;
+    let column = mb.call.column as usize;
+    let row = mb.call.row as usize;
     Block {
-        stride: over(chroma, 16) * grid.cols,
+        stride: over(chroma, 16) * mb.grid.cols,
         x: over(chroma, 16 * column + partition_offset_x(mode, i)),
         y: over(chroma, 16 * row + partition_offset_y(mode, i)),
         w: over(chroma, partition_width(mode)),
@@ -48,8 +47,8 @@ fn block_of(call: Call, grid: Grid, chroma: bool, i: usize) -> Block
 }
 
 // How partition i, which is the block b, reads its taps in a plane of that size.
-fn taps_in(vectors: &[i32], b: Block, size: Size, chroma: bool, i: usize) -> Taps
-    requires width_nonzero { (0 < size.width) × (size.width ≤ 65536) × (0 < size.height) × (size.height ≤ 65536) × (i < 16) × (length vectors.now ≡ 32) }
+fn taps_in(vectors: &[i32; 32], b: Block, size: Size, chroma: bool, i: usize) -> Taps
+    requires width_nonzero { (0 < size.width) × (size.width ≤ 65536) × (0 < size.height) × (size.height ≤ 65536) × (i < 16) }
     requires span { Span b.w b.h × (b.x < 131072) × (b.y < 131072) }
     ensures placed { Placed (pos b.x) (pos b.y) (toward_zero (vector_x vectors.now i) (unit chroma)) (toward_zero (vector_y vectors.now i) (unit chroma)) result.ox result.oy result.phases.px result.phases.py }
     ensures taps_in { TapsIn size.width size.height b.w b.h result }
@@ -63,19 +62,18 @@ fn taps_in(vectors: &[i32], b: Block, size: Size, chroma: bool, i: usize) -> Tap
 fn compensate_partition(
     pic: &mut [u8],
     reference: &[u8],
-    vectors: &[i32],
-    grid: Grid,
-    call: Call,
+    vectors: &[i32; 32],
+    mb: Macroblock,
     i: usize,
 )
-    requires within { Within grid.cols grid.rows call.column call.row × (call.mode ≤ 7) × (i < num_motion_vectors call.mode) }
-    requires planes_sized { PlanesSized false grid.cols grid.rows pic reference × (length vectors.now ≡ 32) }
-    ensures { pic.new ≡ moved_once (unit false) grid.cols grid.rows reference.now call vectors.now i pic.old }
+    requires index { i < num_motion_vectors mb.call.mode }
+    requires planes_sized { PlanesSized false mb.grid.cols mb.grid.rows pic reference }
+    ensures { pic.new ≡ moved_once (unit false) mb.grid.cols mb.grid.rows reference.now mb.call vectors.now i pic.old }
 {
-    let b = block_of(call, grid, false, i);
+    let b = block_of(mb, false, i);
     let size = Size {
         width: b.stride,
-        height: 16 * grid.rows,
+        height: 16 * mb.grid.rows,
     };
     let t = taps_in(vectors, b, size, false, i);
     let plane = Plane {
@@ -86,14 +84,13 @@ fn compensate_partition(
 }
 
 // All partitions of a macroblock's luma.
-pub fn compensate_luma(pic: &mut [u8], reference: &[u8], vectors: &[i32], grid: Grid, call: Call)
-    requires within { Within grid.cols grid.rows call.column call.row × (call.mode ≤ 7) }
-    requires planes_sized { PlanesSized false grid.cols grid.rows pic reference × (length vectors.now ≡ 32) }
-    ensures { pic.new ≡ moved_up_to (num_motion_vectors call.mode) (unit false) grid.cols grid.rows reference.now call vectors.now pic.old }
+pub fn compensate_luma(pic: &mut [u8], reference: &[u8], vectors: &[i32; 32], mb: Macroblock)
+    requires planes_sized { PlanesSized false mb.grid.cols mb.grid.rows pic reference }
+    ensures { pic.new ≡ moved_up_to (num_motion_vectors mb.call.mode) (unit false) mb.grid.cols mb.grid.rows reference.now mb.call vectors.now pic.old }
 {
-    let n = num_motion_vectors(call.mode);
+    let n = num_motion_vectors(mb.call.mode);
     for i in 0..n {
-        compensate_partition(pic, reference, vectors, grid, call, i);
+        compensate_partition(pic, reference, vectors, mb, i);
     }
 }
 
@@ -101,44 +98,39 @@ pub fn compensate_luma(pic: &mut [u8], reference: &[u8], vectors: &[i32], grid: 
 fn compensate_pair(
     cb: &mut [u8],
     cr: &mut [u8],
-    rcb: &[u8],
-    rcr: &[u8],
-    vectors: &[i32],
-    grid: Grid,
-    call: Call,
+    reference: Reference,
+    vectors: &[i32; 32],
+    mb: Macroblock,
     i: usize,
 )
-    requires within { Within grid.cols grid.rows call.column call.row × (call.mode ≤ 7) × (i < num_motion_vectors call.mode) }
-    requires planes_sized { PlanesSized true grid.cols grid.rows cb rcb × PlanesSized true grid.cols grid.rows cr rcr × (length vectors.now ≡ 32) }
-    ensures cb_after { cb.new ≡ moved_once (unit true) grid.cols grid.rows rcb.now call vectors.now i cb.old }
-    ensures cr_after { cr.new ≡ moved_once (unit true) grid.cols grid.rows rcr.now call vectors.now i cr.old }
+    requires index { i < num_motion_vectors mb.call.mode }
+    requires planes_sized { PlanesSized true mb.grid.cols mb.grid.rows cb reference.cb × PlanesSized true mb.grid.cols mb.grid.rows cr reference.cr }
+    ensures cb_after { cb.new ≡ moved_once (unit true) mb.grid.cols mb.grid.rows reference.entry.cb.now mb.call vectors.now i cb.old }
+    ensures cr_after { cr.new ≡ moved_once (unit true) mb.grid.cols mb.grid.rows reference.entry.cr.now mb.call vectors.now i cr.old }
 {
-    let b = block_of(call, grid, true, i);
+    let b = block_of(mb, true, i);
     let size = Size {
         width: b.stride,
-        height: 8 * grid.rows,
+        height: 8 * mb.grid.rows,
     };
     let t = taps_in(vectors, b, size, true, i);
-    compensate_both(cb, cr, rcb, rcr, b, size, t);
+    compensate_both(cb, cr, reference.cb, reference.cr, b, size, t);
 }
 
 // All partitions of both chroma planes.
 pub fn compensate_chroma(
     cb: &mut [u8],
     cr: &mut [u8],
-    rcb: &[u8],
-    rcr: &[u8],
-    vectors: &[i32],
-    grid: Grid,
-    call: Call,
+    reference: Reference,
+    vectors: &[i32; 32],
+    mb: Macroblock,
 )
-    requires within { Within grid.cols grid.rows call.column call.row × (call.mode ≤ 7) }
-    requires planes_sized { PlanesSized true grid.cols grid.rows cb rcb × PlanesSized true grid.cols grid.rows cr rcr × (length vectors.now ≡ 32) }
-    ensures cb_after { cb.new ≡ moved_up_to (num_motion_vectors call.mode) (unit true) grid.cols grid.rows rcb.now call vectors.now cb.old }
-    ensures cr_after { cr.new ≡ moved_up_to (num_motion_vectors call.mode) (unit true) grid.cols grid.rows rcr.now call vectors.now cr.old }
+    requires planes_sized { PlanesSized true mb.grid.cols mb.grid.rows cb reference.cb × PlanesSized true mb.grid.cols mb.grid.rows cr reference.cr }
+    ensures cb_after { cb.new ≡ moved_up_to (num_motion_vectors mb.call.mode) (unit true) mb.grid.cols mb.grid.rows reference.entry.cb.now mb.call vectors.now cb.old }
+    ensures cr_after { cr.new ≡ moved_up_to (num_motion_vectors mb.call.mode) (unit true) mb.grid.cols mb.grid.rows reference.entry.cr.now mb.call vectors.now cr.old }
 {
-    let n = num_motion_vectors(call.mode);
+    let n = num_motion_vectors(mb.call.mode);
     for k in 0..n {
-        compensate_pair(cb, cr, rcb, rcr, vectors, grid, call, k);
+        compensate_pair(cb, cr, reference, vectors, mb, k);
     }
 }

@@ -1,15 +1,13 @@
 // The vectors and the marks of a macroblock.
 ghost use Rattle.std.specs.Prelude.{◌≡◌, ℕ, ◌+◌, ◌*◌, ◌/◌, ◌%◌, ◌^◌, ◌<◌, ◌≤◌, length};
 ghost use Rattle.picture.specs.Picture.{cell_count};
-ghost use Rattle.picture.specs.InnerPicture.{Within};
 ghost use Rattle.picture.specs.InnerRows.{row};
 ghost use Rattle.vectors.specs.Modes.{num_motion_vectors};
 ghost use Rattle.picture.specs.InnerField.{lent_field};
 ghost use Rattle.apply.specs.Apply.{stored_up_to};
 ghost use Rattle.apply.specs.InnerCells.{owner_of, own_number};
 
-use picture::Grid;
-use state::Call;
+use state::Macroblock;
 use vectors::svq3_frame::mark_row;
 
 // The partition of each cell of a macroblock, a hex digit each, by rows, the first the lowest.
@@ -29,8 +27,8 @@ fn owners(mode: u32) -> u64
 }
 
 // The vectors of four cells, from number `at` on: the digits of `four` say whose.
-fn store_row(mv: &mut [i32], vectors: &[i32], at: usize, four: u64)
-    requires { (at + 8 ≤ length mv.old) × (length vectors.now ≡ 32) }
+fn store_row(mv: &mut [i32], vectors: &[i32; 32], at: usize, four: u64)
+    requires { (at + 8 ≤ length mv.old) }
     ensures { mv.new ≡ row mv.old at (own_number vectors.now four) 8 }
 {
     for c in 0..4 {
@@ -43,16 +41,16 @@ fn store_row(mv: &mut [i32], vectors: &[i32], at: usize, four: u64)
 }
 
 // The vectors of all partitions, marked 1, in each of their cells.
-pub fn store_partitions(mv: &mut [i32], marks: &mut [u8], vectors: &[i32], grid: Grid, call: Call)
-    requires within { Within grid.cols grid.rows call.column call.row × (call.mode ≤ 7) × (0 < call.mode) }
-    requires mv_len { (length mv.old ≡ 2 * cell_count grid.cols grid.rows) × (length marks.old ≡ cell_count grid.cols grid.rows) × (length vectors.now ≡ 32) }
-    ensures mv_after { mv.new ≡ (stored_up_to (num_motion_vectors call.mode) call vectors.now (lent_field grid.cols grid.rows mv.old marks.old)).mv }
-    ensures marks_after { marks.new ≡ (stored_up_to (num_motion_vectors call.mode) call vectors.now (lent_field grid.cols grid.rows mv.old marks.old)).marks }
+pub fn store_partitions(mv: &mut [i32], marks: &mut [u8], vectors: &[i32; 32], mb: Macroblock)
+    requires some { 0 < mb.call.mode }
+    requires mv_len { (length mv.old ≡ 2 * cell_count mb.grid.cols mb.grid.rows) × (length marks.old ≡ cell_count mb.grid.cols mb.grid.rows) }
+    ensures mv_after { mv.new ≡ (stored_up_to (num_motion_vectors mb.call.mode) mb.call vectors.now (lent_field mb.grid.cols mb.grid.rows mv.old marks.old)).mv }
+    ensures marks_after { marks.new ≡ (stored_up_to (num_motion_vectors mb.call.mode) mb.call vectors.now (lent_field mb.grid.cols mb.grid.rows mv.old marks.old)).marks }
 {
-    let stride = 4 * grid.cols;
-    let x = 4 * (call.column as usize);
-    let y = 4 * (call.row as usize);
-    let whose = owners(call.mode);
+    let stride = 4 * mb.grid.cols;
+    let x = 4 * (mb.call.column as usize);
+    let y = 4 * (mb.call.row as usize);
+    let whose = owners(mb.call.mode);
     for r in 0..4 {
         let at = (y + r) * stride + x;
         store_row(mv, vectors, 2 * at, whose >> (16 * r));

@@ -16,9 +16,9 @@ use transform::four::{add_chroma_blocks, add_chroma_dc_blocks, add_luma_quadrant
 use transform::svq3_dequant::dequantize_chroma_dc_levels;
 
 // Luma quadrant q, where it is coded.
-fn add_quadrant(pic: &mut [u8], levels: &[i32], grid: Grid, head: Head, q: usize)
+fn add_quadrant(pic: &mut [u8], levels: &[i32; 392], grid: Grid, head: Head, q: usize)
     requires within { Within grid.cols grid.rows head.column head.row × (q < 4) }
-    requires pic_len { (length pic.old ≡ luma_length grid.cols grid.rows) × (length levels.now ≡ 392) × (head.pattern ≤ 47) × (head.quantiser ≤ 31) }
+    requires pic_len { (length pic.old ≡ luma_length grid.cols grid.rows) × (head.pattern ≤ 47) × (head.quantiser ≤ 31) }
     ensures { pic.new ≡ quadrant_added q grid.cols head levels.now pic.old }
 {
     if luma_quadrant_coded(head.pattern as u8, q as u32) {
@@ -31,9 +31,9 @@ fn add_quadrant(pic: &mut [u8], levels: &[i32], grid: Grid, head: Head, q: usize
     }
 }
 
-pub fn add_luma(pic: &mut [u8], levels: &[i32], grid: Grid, head: Head)
+pub fn add_luma(pic: &mut [u8], levels: &[i32; 392], grid: Grid, head: Head)
     requires within { Within grid.cols grid.rows head.column head.row }
-    requires pic_len { (length pic.old ≡ luma_length grid.cols grid.rows) × (length levels.now ≡ 392) × (head.pattern ≤ 47) × (head.quantiser ≤ 31) }
+    requires pic_len { (length pic.old ≡ luma_length grid.cols grid.rows) × (head.pattern ≤ 47) × (head.quantiser ≤ 31) }
     ensures { pic.new ≡ luma_up_to 16 grid.cols head levels.now pic.old }
 {
     for q in 0..4 {
@@ -42,8 +42,8 @@ pub fn add_luma(pic: &mut [u8], levels: &[i32], grid: Grid, head: Head)
 }
 
 // The four blocks of a chroma plane, Cb 0 or Cr 1 (a number: places of levels are reckoned with it), in a square. Without AC levels each has its DC alone.
-fn add_square(pic: &mut [u8], s: Square, levels: &[i32], plane: usize, q: u32, ac: bool)
-    requires inside { SquareIn s 8 (length pic.old) × (length levels.now ≡ 392) × (plane < 2) × (q ≤ 31) }
+fn add_square(pic: &mut [u8], s: Square, levels: &[i32; 392], plane: usize, q: u32, ac: bool)
+    requires inside { SquareIn s 8 (length pic.old) × (plane < 2) × (q ≤ 31) }
     requires pos_value { ac ≡ false → (n : ℕ) → n < 64 → get_or levels.now (264 + 64 * plane + n) (pos 0) ≡ pos 0 }
     ensures { pic.new ≡ square_added plane s.stride s.x s.y q levels.now pic.old }
 {
@@ -55,7 +55,7 @@ fn add_square(pic: &mut [u8], s: Square, levels: &[i32], plane: usize, q: u32, a
     }
 }
 
-pub fn add_chroma(pic: &mut [u8], levels: &[i32], grid: Grid, head: Head, plane: usize)
+pub fn add_chroma(pic: &mut [u8], levels: &[i32; 392], grid: Grid, head: Head, plane: usize)
     requires within { Within grid.cols grid.rows head.column head.row × (plane < 2) }
     requires pic_len { (length pic.old ≡ chroma_length grid.cols grid.rows) × (head.pattern ≤ 47) × (head.quantiser ≤ 31) × ListsRange ItemRange head.pattern levels.now }
     ensures { pic.new ≡ chroma_added plane grid.cols head levels.now pic.old }

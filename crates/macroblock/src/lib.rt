@@ -5,8 +5,17 @@ pub mod svq3_frame;
 ghost use Rattle.std.specs.Prelude.{◌≡◌};
 ghost use Rattle.macroblock.specs.Entry.{cursor_by};
 
+use picture::Reference;
 use refusal::Refusal;
-use state::Cursor;
+use state::{Cursor, Frame};
+
+// What a call is decoded from, and only read.
+#[derive(Clone, Copy)]
+pub struct Source<'a> {
+    pub frame: Frame,
+    pub reference: Reference<'a>,
+    pub bits: &'a [u8],
+}
 
 // What an accepted call leaves: the place after it, the quantiser and the transcript's fill; and how many components it clipped.
 #[derive(Clone, Copy)]

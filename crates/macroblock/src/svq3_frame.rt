@@ -2,58 +2,49 @@
 ghost use Rattle.std.specs.Prelude.{◌≡◌, ◌<◌};
 ghost use Rattle.state.specs.Questions.{yes};
 ghost use Rattle.macroblock.specs.Decode.{asked, decoded};
-ghost use Rattle.macroblock.specs.Entry.{state_now, state_before, state_after, quantiser_by, mb_left};
+ghost use Rattle.picture.specs.InnerLent.{here, before, after};
+ghost use Rattle.macroblock.specs.Entry.{state_before, state_after, quantiser_by, mb_left};
+ghost use Rattle.macroblock.specs.InnerSource.{state_of_source};
 
-use crate::MbReport;
+use crate::{MbReport, Source};
 use apply::applied::{apply_coded, apply_skip};
+use picture::{Picture, Reference};
 use reading::svq3_frame::read_coded;
 use refusal::Refusal;
-use state::{Call, Frame, Lengths, ask_call};
+use state::{Call, Cursor, Frame, Lengths, ask_call};
 use transcript::write::{put_coded, put_skip};
 
 // A macroblock that is no skip: read, then written and applied.
 fn decode_coded(
-    y: &mut [u8],
-    cb: &mut [u8],
-    cr: &mut [u8],
-    mv: &mut [i32],
-    marks: &mut [u8],
+    pic: Picture,
     transcript: &mut [u8],
-    ry: &[u8],
-    rcb: &[u8],
-    rcr: &[u8],
-    bits: &[u8],
-    frame: Frame,
+    source: Source,
     call: Call,
-    quantiser: u32,
-    place: usize,
+    cursor: Cursor,
     fill: usize,
 ) -> Result<MbReport, Refusal>
-    requires fill_value { asked (state_now frame quantiser ry rcb rcr y cb cr mv marks) call bits.now place transcript.old fill ≡ yes }
+    requires fill_value { asked (state_of_source source cursor.quantiser (here pic)) call source.bits.now cursor.place transcript.old fill ≡ yes }
     requires mode_nonzero { 0 < call.mode }
-    ensures { mb_left result (state_after frame (quantiser_by quantiser result) ry rcb rcr y cb cr mv marks) transcript.new
-        ≡ decoded (state_before frame quantiser ry rcb rcr y cb cr mv marks) call bits.now place transcript.old fill }
+    ensures { mb_left result (state_of_source source.entry (quantiser_by cursor.quantiser result) (after pic)) transcript.new
+        ≡ decoded (state_of_source source.entry cursor.quantiser (before pic)) call source.entry.bits.now cursor.place transcript.old fill }
 {
     let mut vectors = [0i32; 32];
     let mut levels = [0i32; 392];
-    let grid = frame.grid;
-    let flags = frame.flags;
+    let grid = source.frame.grid;
     let (head, next) = read_coded(
         &mut vectors,
         &mut levels,
-        mv,
-        marks,
-        bits,
-        place,
+        pic.mv,
+        pic.marks,
+        source.bits,
+        cursor.place,
         grid,
         call,
-        flags,
-        quantiser,
+        source.frame.flags,
+        cursor.quantiser,
     )?;
     let filled = put_coded(transcript, &vectors, &levels, fill, head);
-    apply_coded(
-        y, cb, cr, mv, marks, ry, rcb, rcr, &vectors, &levels, grid, head,
-    );
+    apply_coded(pic, source.reference, &vectors, &levels, grid, head);
     Ok(MbReport {
         place: next,
         quantiser: head.quantiser,
@@ -64,44 +55,25 @@ fn decode_coded(
 
 // A skip reads nothing: its blocks are copied, and its record is its place and its mode.
 fn decode_skip(
-    y: &mut [u8],
-    cb: &mut [u8],
-    cr: &mut [u8],
-    mv: &mut [i32],
-    marks: &mut [u8],
+    pic: Picture,
     transcript: &mut [u8],
-    ry: &[u8],
-    rcb: &[u8],
-    rcr: &[u8],
-    bits: &[u8],
-    frame: Frame,
+    source: Source,
     call: Call,
-    quantiser: u32,
-    place: usize,
+    cursor: Cursor,
     fill: usize,
 ) -> Result<MbReport, Refusal>
-    requires fill_value { asked (state_now frame quantiser ry rcb rcr y cb cr mv marks) call bits.now place transcript.old fill ≡ yes }
+    requires fill_value { asked (state_of_source source cursor.quantiser (here pic)) call source.bits.now cursor.place transcript.old fill ≡ yes }
     requires mode_value { call.mode ≡ 0 }
-    ensures { mb_left result (state_after frame (quantiser_by quantiser result) ry rcb rcr y cb cr mv marks) transcript.new
-        ≡ decoded (state_before frame quantiser ry rcb rcr y cb cr mv marks) call bits.now place transcript.old fill }
+    ensures { mb_left result (state_of_source source.entry (quantiser_by cursor.quantiser result) (after pic)) transcript.new
+        ≡ decoded (state_of_source source.entry cursor.quantiser (before pic)) call source.entry.bits.now cursor.place transcript.old fill }
 {
     let fill = put_skip(transcript, fill, call.column, call.row);
-    apply_skip(
-        y,
-        cb,
-        cr,
-        mv,
-        marks,
-        ry,
-        rcb,
-        rcr,
-        frame.grid,
-        call.column as usize,
-        call.row as usize,
-    );
+    let column = call.column as usize;
+    let row = call.row as usize;
+    apply_skip(pic, source.reference, source.frame.grid, column, row);
     Ok(MbReport {
-        place,
-        quantiser,
+        place: cursor.place,
+        quantiser: cursor.quantiser,
         fill,
         clipped: 0,
     })
@@ -109,36 +81,21 @@ fn decode_skip(
 
 // A call whose questions were all answered with yes.
 fn decode_asked(
-    y: &mut [u8],
-    cb: &mut [u8],
-    cr: &mut [u8],
-    mv: &mut [i32],
-    marks: &mut [u8],
+    pic: Picture,
     transcript: &mut [u8],
-    ry: &[u8],
-    rcb: &[u8],
-    rcr: &[u8],
-    bits: &[u8],
-    frame: Frame,
+    source: Source,
     call: Call,
-    quantiser: u32,
-    place: usize,
+    cursor: Cursor,
     fill: usize,
 ) -> Result<MbReport, Refusal>
-    requires { asked (state_now frame quantiser ry rcb rcr y cb cr mv marks) call bits.now place transcript.old fill ≡ yes }
-    ensures { mb_left result (state_after frame (quantiser_by quantiser result) ry rcb rcr y cb cr mv marks) transcript.new
-        ≡ decoded (state_before frame quantiser ry rcb rcr y cb cr mv marks) call bits.now place transcript.old fill }
+    requires { asked (state_of_source source cursor.quantiser (here pic)) call source.bits.now cursor.place transcript.old fill ≡ yes }
+    ensures { mb_left result (state_of_source source.entry (quantiser_by cursor.quantiser result) (after pic)) transcript.new
+        ≡ decoded (state_of_source source.entry cursor.quantiser (before pic)) call source.entry.bits.now cursor.place transcript.old fill }
 {
     if call.mode == 0 {
-        decode_skip(
-            y, cb, cr, mv, marks, transcript, ry, rcb, rcr, bits, frame, call, quantiser, place,
-            fill,
-        )
+        decode_skip(pic, transcript, source, call, cursor, fill)
     } else {
-        decode_coded(
-            y, cb, cr, mv, marks, transcript, ry, rcb, rcr, bits, frame, call, quantiser, place,
-            fill,
-        )
+        decode_coded(pic, transcript, source, call, cursor, fill)
     }
 }
 
@@ -180,7 +137,23 @@ pub fn decode_inter_mb(
     };
     let free = transcript.len().saturating_sub(fill);
     ask_call(frame.grid, l, made, quantiser, bits.len(), place, free)?;
-    decode_asked(
-        y, cb, cr, mv, marks, transcript, ry, rcb, rcr, bits, frame, made, quantiser, place, fill,
-    )
+    let reference = Reference {
+        y: ry,
+        cb: rcb,
+        cr: rcr,
+    };
+    let source = Source {
+        frame,
+        reference,
+        bits,
+    };
+    let pic = Picture {
+        y,
+        cb,
+        cr,
+        mv,
+        marks,
+    };
+    let cursor = Cursor { place, quantiser };
+    decode_asked(pic, transcript, source, made, cursor, fill)
 }

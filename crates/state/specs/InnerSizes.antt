@@ -1,7 +1,8 @@
 -- Slices of the grid's lengths: contracts of inner functions.
 -- Assumes nothing.
-use Rattle.std.specs.Prelude.{◌≡◌, List, ℕ, ◌*◌, ℤ, length}
-use Rattle.std.specs.Borrow.{Bor, MutBor}
+use Rattle.std.specs.Prelude.{◌≡◌, ℕ, ◌*◌, length}
+use Rattle.picture.specs.InnerLent.{Slices}
+use Rattle.picture.specs.declared.Reference.{Reference}
 use Rattle.picture.specs.InnerPicture.{Sized}
 use Rattle.picture.specs.Picture.{cell_count}
 use Rattle.state.specs.declared.Lengths.{Lengths}
@@ -13,16 +14,16 @@ pub record AllSized (cols rows : ℕ) (l : Lengths) : Type 0 where
   pub marks : l.marks ≡ cell_count cols rows
   pub reference : Sized cols rows l.ry l.rcb l.rcr
 
--- the lengths of lent slices, in a `requires`
-abbrev pub lent_lengths : MutBor (List ℕ) → MutBor (List ℕ) → MutBor (List ℕ) → MutBor (List ℤ) → MutBor (List ℕ) → Bor (List ℕ) → Bor (List ℕ) → Bor (List ℕ) → Lengths
-lent_lengths y cb cr mv marks ry rcb rcr =
+-- the lengths of what is lent, in a `requires`
+abbrev pub lent_lengths : Slices → Reference → Lengths
+lent_lengths pic reference =
     record {
-      y = length y.now;
-      cb = length cb.now;
-      cr = length cr.now;
-      mv = length mv.now;
-      marks = length marks.now;
-      ry = length ry.now;
-      rcb = length rcb.now;
-      rcr = length rcr.now;
+      y = length pic.y;
+      cb = length pic.cb;
+      cr = length pic.cr;
+      mv = length pic.mv;
+      marks = length pic.marks;
+      ry = length reference.y.now;
+      rcb = length reference.cb.now;
+      rcr = length reference.cr.now;
     }

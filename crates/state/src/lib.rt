@@ -2,6 +2,7 @@
 // Grid, flags, call, cursor and lengths, and the questions before a macroblock: on numbers alone, the lengths of the slices among them.
 
 ghost use Rattle.std.specs.Prelude.{◌≡◌, true, ◌≤◌};
+ghost use Rattle.picture.specs.InnerPicture.{Within};
 ghost use Rattle.state.specs.Questions.{grid_right, planes_right, state_right, reference_there, call_right, place_in, yes, then_ask, ask_start, ask_quantiser, ask_place, ask_rest, ask_call, ask_run, ask_replay, sides_fit};
 
 use picture::Grid;
@@ -13,6 +14,15 @@ pub struct Call {
     pub row: u32,
     // a number, as C gives it: question 5 refuses what is no mode, and tables are read by it
     pub mode: u32,
+}
+
+// A macroblock that is in its grid, by one of the eight modes: a call after question 5, or a record that was read.
+#[derive(Clone, Copy)]
+pub struct Macroblock {
+    pub grid: Grid,
+    pub call: Call,
+    pub ghost within: { Within grid.cols grid.rows call.column call.row },
+    pub ghost mode: { call.mode ≤ 7 },
 }
 
 // What the sequence header and the slice header say of reading.

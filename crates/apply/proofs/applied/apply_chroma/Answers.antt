@@ -8,9 +8,12 @@ use Rattle.apply.specs.Blocks.{chroma_added}
 use Rattle.apply.proofs.Macroblocks.{coded-chroma, place-within, no-skip}
 use Rattle.apply.proofs.applied.apply_chroma.Goals as goal
 
+pub invariant_of-mb : goal.invariant_of-mb
+invariant_of-mb c =
+    record { within = place-within c.requires.cols_bound.2 c.requires.cols_bound.0 c.requires.cols_bound.1; mode = c.requires.cols_bound.2.mode }
+
 pub compensate_chroma-requires : goal.compensate_chroma-requires
-compensate_chroma-requires c =
-    record { within = (place-within c.requires.cols_bound.2 c.requires.cols_bound.0 c.requires.cols_bound.1, c.requires.cols_bound.2.mode); planes_sized = (c.requires.planes_sized.0, c.requires.planes_sized.1, c.requires.cols_bound.4) }
+compensate_chroma-requires c = record { planes_sized = c.requires.planes_sized }
 
 pub add_chroma-requires : goal.add_chroma-requires
 add_chroma-requires c =
@@ -29,8 +32,8 @@ returns c =
     record {
       cb_after = c.add_chroma.ensures
           ∙ ap (λ (p : List ℕ). chroma_added 0 a.grid.cols a.head a.levels.now p) c.compensate_chroma.ensures.cb_after
-          ∙ sym (coded-chroma a.grid.cols a.grid.rows a.rcb.now (record_of a.head a.vectors.now a.levels.now) a.cb.now 0 coded);
+          ∙ sym (coded-chroma a.grid.cols a.grid.rows a.reference.cb.now (record_of a.head a.vectors.now a.levels.now) a.cb.now 0 coded);
       cr_after = c.add_chroma-2.ensures
           ∙ ap (λ (p : List ℕ). chroma_added 1 a.grid.cols a.head a.levels.now p) c.compensate_chroma.ensures.cr_after
-          ∙ sym (coded-chroma a.grid.cols a.grid.rows a.rcr.now (record_of a.head a.vectors.now a.levels.now) a.cr.now 1 coded);
+          ∙ sym (coded-chroma a.grid.cols a.grid.rows a.reference.cr.now (record_of a.head a.vectors.now a.levels.now) a.cr.now 1 coded);
     }

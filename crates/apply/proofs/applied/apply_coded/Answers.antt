@@ -2,6 +2,7 @@
 use mathlib.Core.Path.{sym, ap, ◌∙◌}
 use Rattle.picture.specs.Field.{Field}
 use Rattle.picture.specs.InnerField.{lent_field}
+use Rattle.picture.specs.InnerLent.{holding}
 use Rattle.record.specs.InnerRecord.{record_of}
 use Rattle.apply.proofs.Macroblocks.{place-within, no-skip}
 use Rattle.apply.proofs.Fields.{coded-field}
@@ -13,12 +14,19 @@ apply_luma-requires c = record { cols_bound = c.requires.cols_bound; planes_size
 pub apply_chroma-requires : goal.apply_chroma-requires
 apply_chroma-requires c = record { cols_bound = c.requires.cols_bound; planes_sized = ((c.requires.all_sized.picture.cb_right, c.requires.all_sized.reference.cb_right), (c.requires.all_sized.picture.cr_right, c.requires.all_sized.reference.cr_right)) }
 
+pub invariant_of-mb : goal.invariant_of-mb
+invariant_of-mb c =
+    record { within = place-within c.requires.cols_bound.2 c.requires.cols_bound.0 c.requires.cols_bound.1; mode = c.requires.cols_bound.2.mode }
+
 pub store_partitions-requires : goal.store_partitions-requires
-store_partitions-requires c =
-    record { within = (place-within c.requires.cols_bound.2 c.requires.cols_bound.0 c.requires.cols_bound.1, c.requires.cols_bound.2.mode, c.requires.cols_bound.3); mv_len = (c.requires.all_sized.mv, c.requires.all_sized.marks, c.requires.cols_bound.4) }
+store_partitions-requires c = record { some = c.requires.cols_bound.3; mv_len = (c.requires.all_sized.mv, c.requires.all_sized.marks) }
 
 pub returns : goal.returns
 returns c =
     let a = c.args in
-    let field = coded-field (record_of a.head a.vectors.now a.levels.now) (lent_field a.grid.cols a.grid.rows a.mv.now a.marks.now) (no-skip a.head.mode c.requires.cols_bound.3) in
-    record { y_after = c.apply_luma.ensures; cb_after = c.apply_chroma.ensures.cb_after; cr_after = c.apply_chroma.ensures.cr_after; mv_after = c.store_partitions.ensures.mv_after ∙ sym (ap (λ (f : Field). f.mv) field); marks_after = c.store_partitions.ensures.marks_after ∙ sym (ap (λ (f : Field). f.marks) field) }
+    let p = a.pic.now in
+    let field = coded-field (record_of a.head a.vectors.now a.levels.now) (lent_field a.grid.cols a.grid.rows p.mv.now p.marks.now) (no-skip a.head.mode c.requires.cols_bound.3) in
+    let cell = c.store_partitions.ensures in
+    let mv = cell.mv_after ∙ sym (ap (λ (f : Field). f.mv) field) in
+    let marks = cell.marks_after ∙ sym (ap (λ (f : Field). f.marks) field) in
+    λ i. holding p (record { y = c.apply_luma.ensures i; cb = c.apply_chroma.ensures.cb_after i; cr = c.apply_chroma.ensures.cr_after i; mv = mv i; marks = marks i })

@@ -2,6 +2,7 @@
 use mathlib.Core.Path.{sym, ap, ◌∙◌}
 use Prim.Native.Nat.{ℕ, ◌*◌}
 use Rattle.vectors.proofs.Following.{macroblock-cells}
+use Rattle.picture.specs.InnerLent.{holding}
 use Rattle.apply.proofs.Macroblocks.{skipped-luma, skipped-chroma}
 use Rattle.apply.proofs.Fields.{skipped-mv, skipped-marks}
 use Rattle.apply.proofs.applied.apply_skip.Goals as goal
@@ -15,4 +16,12 @@ mark_macroblock-requires c = (c.requires.within.wide, c.requires.all_sized.mv �
 pub returns : goal.returns
 returns c =
     let a = c.args in
-    record { y_after = c.copy_macroblock_from.ensures.luma_after ∙ sym (skipped-luma a.grid.cols a.grid.rows a.ry.now a.column a.row a.y.now); cb_after = c.copy_macroblock_from.ensures.cb_after ∙ sym (skipped-chroma 0 a.grid.cols a.grid.rows a.rcb.now a.column a.row a.cb.now); cr_after = c.copy_macroblock_from.ensures.cr_after ∙ sym (skipped-chroma 1 a.grid.cols a.grid.rows a.rcr.now a.column a.row a.cr.now); mv_after = c.mark_macroblock.ensures.mv_after ∙ sym (skipped-mv a.grid.cols a.grid.rows a.column a.row a.mv.now a.marks.now); marks_after = c.mark_macroblock.ensures.marks_after ∙ sym (skipped-marks a.grid.cols a.grid.rows a.column a.row a.mv.now a.marks.now) }
+    let p = a.pic.now in
+    let plane = c.copy_macroblock_from.ensures in
+    let cell = c.mark_macroblock.ensures in
+    let y = plane.y_after ∙ sym (skipped-luma a.grid.cols a.grid.rows a.reference.y.now a.column a.row p.y.now) in
+    let cb = plane.cb_after ∙ sym (skipped-chroma 0 a.grid.cols a.grid.rows a.reference.cb.now a.column a.row p.cb.now) in
+    let cr = plane.cr_after ∙ sym (skipped-chroma 1 a.grid.cols a.grid.rows a.reference.cr.now a.column a.row p.cr.now) in
+    let mv = cell.mv_after ∙ sym (skipped-mv a.grid.cols a.grid.rows a.column a.row p.mv.now p.marks.now) in
+    let marks = cell.marks_after ∙ sym (skipped-marks a.grid.cols a.grid.rows a.column a.row p.mv.now p.marks.now) in
+    λ i. holding p (record { y = y i; cb = cb i; cr = cr i; mv = mv i; marks = marks i })

@@ -8,22 +8,22 @@ use Rattle.apply.proofs.Partitions.{few}
 use Rattle.apply.proofs.svq3_frame.block_of.Goals as goal
 
 pub overflow_add-column : goal.overflow_add-column
-overflow_add-column c = omega (arith, c.partition_offset_x.ensures, inside c.args.call.mode c.args.i c.requires.1 c.requires.2)
+overflow_add-column c = omega (arith, c.partition_offset_x.ensures, inside c.args.mb.call.mode c.args.i c.args.mb.mode c.requires)
 
 pub overflow_add-row : goal.overflow_add-row
-overflow_add-row c = omega (arith, c.partition_offset_y.ensures, inside c.args.call.mode c.args.i c.requires.1 c.requires.2)
+overflow_add-row c = omega (arith, c.partition_offset_y.ensures, inside c.args.mb.call.mode c.args.i c.args.mb.mode c.requires)
 
 pub returns : goal.returns
 unfolding part_x part_y
 returns c =
     let a = c.args in
     let u = unit a.chroma in
-    let stride = ap (λ (n : ℕ). n * a.grid.cols) c.over.ensures in
-    let x = c.over-2.ensures ∙ ap (λ (o : ℕ). (16 * a.call.column + o) / u) c.partition_offset_x.ensures in
-    let y = c.over-3.ensures ∙ ap (λ (o : ℕ). (16 * a.call.row + o) / u) c.partition_offset_y.ensures in
+    let stride = ap (λ (n : ℕ). n * a.mb.grid.cols) c.over.ensures in
+    let x = c.over-2.ensures ∙ ap (λ (o : ℕ). (16 * a.mb.call.column + o) / u) c.partition_offset_x.ensures in
+    let y = c.over-3.ensures ∙ ap (λ (o : ℕ). (16 * a.mb.call.row + o) / u) c.partition_offset_y.ensures in
     let w = c.over-4.ensures ∙ ap (λ (o : ℕ). o / u) c.partition_width.ensures in
     let h = c.over-5.ensures ∙ ap (λ (o : ℕ). o / u) c.partition_height.ensures in
     λ j. record { stride = stride j; x = x j; y = y j; w = w j; h = h j }
 
 pub overflow_mul-result : goal.overflow_mul-result
-overflow_mul-result c = omega (arith, few c.args.chroma _ c.args.grid.cols c.over.ensures c.requires.0)
+overflow_mul-result c = omega (arith, few c.args.chroma _ c.args.mb.grid.cols c.over.ensures c.args.mb.within.wide)

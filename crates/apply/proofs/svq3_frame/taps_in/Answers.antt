@@ -37,7 +37,7 @@ pub offset_bounds-vectors-i : goal.offset_bounds-vectors-i
 offset_bounds-vectors-i c = omega (arith, c.requires.width_nonzero.4)
 
 pub bounds-vectors-i : goal.bounds-vectors-i
-bounds-vectors-i c = omega (arith, c.requires.width_nonzero.4, c.requires.width_nonzero.5)
+bounds-vectors-i c = omega (arith, c.requires.width_nonzero.4)
 
 pub vector_over-vx-requires : goal.vector_over-vx-requires
 vector_over-vx-requires c = tt
@@ -52,7 +52,7 @@ pub offset_bounds-vectors-i-2 : goal.offset_bounds-vectors-i-2
 offset_bounds-vectors-i-2 c = omega (arith, c.requires.width_nonzero.4)
 
 pub bounds-vectors-i-2 : goal.bounds-vectors-i-2
-bounds-vectors-i-2 c = omega (arith, c.requires.width_nonzero.4, c.requires.width_nonzero.5)
+bounds-vectors-i-2 c = omega (arith, c.requires.width_nonzero.4)
 
 pub vector_over-vy-requires : goal.vector_over-vy-requires
 vector_over-vy-requires c = tt

@@ -10,7 +10,7 @@ pub loop-q-init : goal.loop-q-init
 loop-q-init c = no-quadrant c.args.grid.cols c.args.head c.args.levels.now c.args.pic.now
 
 pub add_quadrant-requires : goal.add_quadrant-requires
-add_quadrant-requires c = record { within = (c.requires.within, c.loop-q-test.true); pic_len = (c.loop-q.auto.pic ∙ c.requires.pic_len.0, c.requires.pic_len.1, c.requires.pic_len.2, c.requires.pic_len.3) }
+add_quadrant-requires c = record { within = (c.requires.within, c.loop-q-test.true); pic_len = (c.loop-q.auto.pic ∙ c.requires.pic_len.0, c.requires.pic_len.1, c.requires.pic_len.2) }
 
 pub loop-q-preserved : goal.loop-q-preserved
 loop-q-preserved c =

@@ -8,15 +8,18 @@ use lib.Dec.{lit<}
 use Rattle.ints.specs.Z.{when◌then◌else◌}
 use Rattle.picture.proofs.Laws.{plane-inside}
 use Rattle.transform.specs.InnerFour.{added_four}
+use Rattle.transform.specs.InnerResidual.{luma_residual}
+use mathlib.Core.List.{List}
+use lib.IntN.{ℤ}
 use Rattle.transform.proofs.Slices.{luma-slice}
 use Rattle.levels.specs.Pattern.{quadrant_coded}
 use Rattle.apply.specs.InnerSquares.{quadrant_added}
-use Rattle.apply.proofs.Residuals.{quadrant-inside}
+use Rattle.apply.proofs.Residuals.{quadrant-inside, all-levels}
 use Rattle.apply.proofs.svq3_recon.add_quadrant.Goals as goal
 
 pub add_luma_quadrant-requires : goal.add_luma_quadrant-requires
 add_luma_quadrant-requires c =
-    record { inside = quadrant-inside c.args.q c.requires.within.1 (plane-inside 16 (lit< tt) c.requires.within.0 c.requires.pic_len.0); levels = (omega (arith, length-drop (64 * c.args.q) c.args.levels.now, c.requires.within.1, c.requires.pic_len.1), c.requires.pic_len.3) }
+    record { inside = quadrant-inside c.args.q c.requires.within.1 (plane-inside 16 (lit< tt) c.requires.within.0 c.requires.pic_len.0); levels = (omega (arith, length-drop (64 * c.args.q) c.args.levels.now, c.requires.within.1), c.requires.pic_len.2) }
 
 pub returns-then-luma_quadrant_coded : goal.returns-then-luma_quadrant_coded
 unfolding quadrant_added when◌then◌else◌
@@ -24,9 +27,11 @@ returns-then-luma_quadrant_coded c =
     let e : quadrant_coded c.args.head.pattern c.args.q ≡ true = sym c.luma_quadrant_coded.ensures ∙ c.if-luma_quadrant_coded.true in
     let a = c.args in
     let h = a.head in
+    let square = added_four a.pic.now (16 * a.grid.cols) (16 * h.column + 8 * (a.q % 2)) (16 * h.row + 8 * (a.q / 2)) in
     rw e
     (c.add_luma_quadrant.ensures
-    ∙ (λ i. added_four a.pic.now (16 * a.grid.cols) (16 * h.column + 8 * (a.q % 2)) (16 * h.row + 8 * (a.q / 2)) (λ b. luma-slice h.quantiser (64 * a.q) (16 * b) a.levels.now i)))
+    ∙ all-levels (λ (l : List ℤ). square (λ b. luma_residual h.quantiser l (16 * b))) (64 * a.q) a.levels.now c.told-levels
+    ∙ (λ i. square (λ b. luma-slice h.quantiser (64 * a.q) (16 * b) a.levels.now i)))
 
 pub returns-else-luma_quadrant_coded : goal.returns-else-luma_quadrant_coded
 unfolding quadrant_added when◌then◌else◌

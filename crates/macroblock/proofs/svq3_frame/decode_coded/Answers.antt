@@ -11,7 +11,8 @@ use Rattle.record.specs.InnerRecord.{record_of}
 use Rattle.record.specs.Range.{RecordRange, HeadRange}
 use Rattle.record.specs.declared.Head.{Head}
 use Rattle.state.specs.State.{State}
-use Rattle.macroblock.specs.Entry.{state_of}
+use Rattle.picture.specs.InnerLent.{here}
+use Rattle.macroblock.specs.InnerSource.{state_of_source}
 use Rattle.refusal.proofs.Answered.{handed}
 use Rattle.macroblock.proofs.Laws as laws
 use Rattle.macroblock.proofs.svq3_frame.decode_coded.Goals.{In_ok-head, Start}
@@ -19,17 +20,17 @@ use Rattle.macroblock.proofs.svq3_frame.decode_coded.Goals as goal
 
 -- ---- the state at entry
 abbrev S : Start → State
-S c = state_of c.args.frame c.args.quantiser c.args.ry.now c.args.rcb.now c.args.rcr.now c.args.y.now c.args.cb.now c.args.cr.now c.args.mv.now c.args.marks.now
+S c = state_of_source c.args.source c.args.cursor.quantiser (here c.args.pic)
 
-facts_at : (s : Start) → laws.Facts (S s) s.args.call s.args.bits.now s.args.place s.args.transcript.now s.args.fill s.requires.fill_value
-facts_at s = laws.facts (S s) s.args.call s.args.bits.now s.args.place s.args.transcript.now s.args.fill s.requires.fill_value
+facts_at : (s : Start) → laws.Facts (S s) s.args.call s.args.source.bits.now s.args.cursor.place s.args.transcript.now s.args.fill s.requires.fill_value
+facts_at s = laws.facts (S s) s.args.call s.args.source.bits.now s.args.cursor.place s.args.transcript.now s.args.fill s.requires.fill_value
 
 within-at : (s : Start) → Within (S s).cols (S s).rows s.args.call.column s.args.call.row
-within-at s = laws.within (S s) s.args.call s.args.bits.now s.args.place s.args.transcript.now s.args.fill s.requires.fill_value
+within-at s = laws.within (S s) s.args.call s.args.source.bits.now s.args.cursor.place s.args.transcript.now s.args.fill s.requires.fill_value
 
 -- ---- a record was read
 abbrev T : In_ok-head → State
-T c = state_of c.args.frame c.args.quantiser c.args.ry.now c.args.rcb.now c.args.rcr.now c.args.y.now c.args.cb.now c.args.cr.now c.args.mv.now c.args.marks.now
+T c = state_of_source c.args.source c.args.cursor.quantiser (here c.args.pic)
 
 abbrev H : In_ok-head → Head
 H k = k.in_ok-head.head
@@ -41,13 +42,13 @@ abbrev Ls : In_ok-head → List ℤ
 Ls k = k.read_coded.new.levels
 
 range_at : (k : In_ok-head) → RecordRange (T k).cols (T k).rows (record_of (H k) (Vs k) (Ls k))
-range_at k = let s = k in laws.range (T s) s.args.call s.args.bits.now s.args.place s.args.transcript.now s.args.fill s.requires.fill_value s.requires.mode_nonzero _ (H k) _ (Vs k) (Ls k) k.read_coded.ensures k.in_ok-head.was
+range_at k = let s = k in laws.range (T s) s.args.call s.args.source.bits.now s.args.cursor.place s.args.transcript.now s.args.fill s.requires.fill_value s.requires.mode_nonzero _ (H k) _ (Vs k) (Ls k) k.read_coded.ensures k.in_ok-head.was
 
 head_at : (k : In_ok-head) → HeadRange (H k)
-head_at k = let s = k in laws.head_in (T s) s.args.call s.args.bits.now s.args.place s.args.transcript.now s.args.fill s.requires.fill_value s.requires.mode_nonzero _ (H k) _ (Vs k) (Ls k) k.read_coded.ensures k.in_ok-head.was
+head_at k = let s = k in laws.head_in (T s) s.args.call s.args.source.bits.now s.args.cursor.place s.args.transcript.now s.args.fill s.requires.fill_value s.requires.mode_nonzero _ (H k) _ (Vs k) (Ls k) k.read_coded.ensures k.in_ok-head.was
 
 no-skip-at : (k : In_ok-head) → 0 < (H k).mode
-no-skip-at k = let s = k in laws.no-skip (T s) s.args.call s.args.bits.now s.args.place s.args.transcript.now s.args.fill s.requires.fill_value s.requires.mode_nonzero _ (H k) _ (Vs k) (Ls k) k.read_coded.ensures k.in_ok-head.was
+no-skip-at k = let s = k in laws.no-skip (T s) s.args.call s.args.source.bits.now s.args.cursor.place s.args.transcript.now s.args.fill s.requires.fill_value s.requires.mode_nonzero _ (H k) _ (Vs k) (Ls k) k.read_coded.ensures k.in_ok-head.was
 
 -- ---- the needs
 pub read_coded-requires : goal.read_coded-requires
@@ -59,7 +60,7 @@ read_coded-requires c =
 pub put_coded-filled-requires : goal.put_coded-filled-requires
 put_coded-filled-requires c =
     let s = (goal.at.put_coded-filled-requires c).In_ok-head in
-    (head_at (goal.at.put_coded-filled-requires c).In_ok-head, no-skip-at (goal.at.put_coded-filled-requires c).In_ok-head, c.read_coded.auto.vectors, c.read_coded.auto.levels, omega (arith, laws.room (T s) s.args.call s.args.bits.now s.args.place s.args.transcript.now s.args.fill s.requires.fill_value))
+    (head_at (goal.at.put_coded-filled-requires c).In_ok-head, no-skip-at (goal.at.put_coded-filled-requires c).In_ok-head, c.read_coded.auto.vectors, c.read_coded.auto.levels, omega (arith, laws.room (T s) s.args.call s.args.source.bits.now s.args.cursor.place s.args.transcript.now s.args.fill s.requires.fill_value))
 
 pub apply_coded-requires : goal.apply_coded-requires
 apply_coded-requires c =
@@ -72,13 +73,13 @@ returns c =
     let s = (goal.at.returns c).In_ok-head in
     let w = c.put_coded-filled in
     let a = c.apply_coded in
-    laws.accepted (T s) s.args.call s.args.bits.now s.args.place s.args.transcript.now s.args.fill s.requires.fill_value s.requires.mode_nonzero _ (H (goal.at.returns c).In_ok-head) _ (Vs (goal.at.returns c).In_ok-head) (Ls (goal.at.returns c).In_ok-head) c.read_coded.ensures c.in_ok-head.was
-    w.result a.new.y a.new.cb a.new.cr a.new.mv a.new.marks w.new.out
+    laws.accepted (T s) s.args.call s.args.source.bits.now s.args.cursor.place s.args.transcript.now s.args.fill s.requires.fill_value s.requires.mode_nonzero _ (H (goal.at.returns c).In_ok-head) _ (Vs (goal.at.returns c).In_ok-head) (Ls (goal.at.returns c).In_ok-head) c.read_coded.ensures c.in_ok-head.was
+    w.result _ _ _ _ _ w.new.out
     w.ensures a.ensures.y_after a.ensures.cb_after a.ensures.cr_after a.ensures.mv_after a.ensures.marks_after
 
 pub returns-in_err-head : goal.returns-in_err-head
 returns-in_err-head c =
-    rw (handed _ _ c.from_residual.ensures) (laws.not-read (S (goal.at.returns-in_err-head c).Start) c.args.call c.args.bits.now c.args.place c.args.transcript.now c.args.fill c.requires.fill_value c.requires.mode_nonzero _ _ _ _ c.read_coded.ensures c.in_err-head.was)
+    rw (handed _ _ c.from_residual.ensures) (laws.not-read (S (goal.at.returns-in_err-head c).Start) c.args.call c.args.source.bits.now c.args.cursor.place c.args.transcript.now c.args.fill c.requires.fill_value c.requires.mode_nonzero _ _ _ _ c.read_coded.ensures c.in_err-head.was)
 
 pub slice_bounds-read_coded-end : goal.slice_bounds-read_coded-end
 slice_bounds-read_coded-end c = refl
