@@ -5,6 +5,7 @@ ghost use Rattle.bits.specs.InnerWindow.{Shows};
 ghost use Rattle.refusal.specs.Answered.{answered};
 ghost use Rattle.bits.specs.InnerPair.{signed_pair};
 
+use crate::Bits;
 use crate::code_starts::code_start;
 use crate::svq3_mv::{read_signed_code, signed_of};
 use refusal::Refusal;
@@ -26,23 +27,21 @@ fn word_here(bits: &[u8], at: usize) -> u32
 }
 
 // One code, then the other.
-fn read_apart(bits: &[u8], at: usize) -> Result<((i32, i32), usize), Refusal>
-    requires { length bits.now < 2 ^ 61 }
-    ensures { result ≡ answered at (signed_pair (drop at (bit_list bits.now))) }
+fn read_apart(bits: Bits, at: usize) -> Result<((i32, i32), usize), Refusal>
+    ensures { result ≡ answered at (signed_pair (drop at (bit_list bits.entry.bytes.now))) }
 {
     let (y, p) = read_signed_code(bits, at)?;
     let (x, next) = read_signed_code(bits, p)?;
     Ok(((y, x), next))
 }
 
-pub fn read_signed_pair(bits: &[u8], at: usize) -> Result<((i32, i32), usize), Refusal>
-    requires { length bits.now < 2 ^ 61 }
-    ensures { result ≡ answered at (signed_pair (drop at (bit_list bits.now))) }
+pub fn read_signed_pair(bits: Bits, at: usize) -> Result<((i32, i32), usize), Refusal>
+    ensures { result ≡ answered at (signed_pair (drop at (bit_list bits.entry.bytes.now))) }
 {
-    if bits.len() < at / 8 + 4 {
+    if bits.bytes.len() < at / 8 + 4 {
         return read_apart(bits, at);
     }
-    let here = word_here(bits, at);
+    let here = word_here(bits.bytes, at);
     let first = code_start(here >> 23);
     let n = first.before + 1;
     let second = code_start((here << n) >> 23);

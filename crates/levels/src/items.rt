@@ -8,6 +8,7 @@ ghost use Rattle.levels.specs.InnerLeft.{left_side, left_items, Leaves};
 
 use crate::svq3_cbp::{chroma_class, luma_quadrant_coded};
 use crate::svq3_coeff::{ResidualBook, decode_chroma_dc_2x2, decode_residual_4x4_normal};
+use bits::Bits;
 use refusal::Refusal;
 
 // Lists 0 to 15 are luma blocks, 16 and 17 chroma DC, 18 to 25 chroma AC.
@@ -52,14 +53,14 @@ pub fn item_place(i: usize) -> usize
 // `count` lists of 4×4 blocks, which are stored side by side from `place` on. After a refusal the lists before the refused one are stored and its own room is 0, here and below.
 fn read_blocks(
     levels: &mut [i32],
-    bits: &[u8],
+    bits: Bits,
     at: usize,
     place: usize,
     count: usize,
     start: u32,
 ) -> Result<usize, Refusal>
-    requires { (place + 16 * count ≤ length levels.old) × (start ≤ 1) × (length bits.now < 2 ^ 61) }
-    ensures { Leaves (read_side ResidualBook.NormalScan start count place) (left_side ResidualBook.NormalScan start count place) levels.old (bit_list bits.now) at result levels.new }
+    requires { (place + 16 * count ≤ length levels.old) × (start ≤ 1) }
+    ensures { Leaves (read_side ResidualBook.NormalScan start count place) (left_side ResidualBook.NormalScan start count place) levels.old (bit_list bits.entry.bytes.now) at result levels.new }
 {
     let mut p = at;
     for i in 0..count {
@@ -69,9 +70,8 @@ fn read_blocks(
 }
 
 // Cb DC and Cr DC.
-fn read_dc(levels: &mut [i32], bits: &[u8], at: usize) -> Result<usize, Refusal>
-    requires { (length levels.old ≡ 392) × (length bits.now < 2 ^ 61) }
-    ensures { Leaves (read_side ResidualBook.ChromaDc 0 2 256) (left_side ResidualBook.ChromaDc 0 2 256) levels.old (bit_list bits.now) at result levels.new }
+fn read_dc(levels: &mut [i32; 392], bits: Bits, at: usize) -> Result<usize, Refusal>
+    ensures { Leaves (read_side ResidualBook.ChromaDc 0 2 256) (left_side ResidualBook.ChromaDc 0 2 256) levels.old (bit_list bits.entry.bytes.now) at result levels.new }
 {
     let next = decode_chroma_dc_2x2(levels, 256, bits, at)?;
     decode_chroma_dc_2x2(levels, 260, bits, next)
@@ -79,14 +79,14 @@ fn read_dc(levels: &mut [i32], bits: &[u8], at: usize) -> Result<usize, Refusal>
 
 // The four lists of luma quadrant q, where they are coded.
 fn read_quadrant(
-    levels: &mut [i32],
-    bits: &[u8],
+    levels: &mut [i32; 392],
+    bits: Bits,
     at: usize,
     pattern: u8,
     q: usize,
 ) -> Result<usize, Refusal>
-    requires { (length levels.old ≡ 392) × (length bits.now < 2 ^ 61) × (q < 4) }
-    ensures { Leaves (read_items 4 (4 * q) pattern) (left_items 4 (4 * q) pattern) levels.old (bit_list bits.now) at result levels.new }
+    requires { q < 4 }
+    ensures { Leaves (read_items 4 (4 * q) pattern) (left_items 4 (4 * q) pattern) levels.old (bit_list bits.entry.bytes.now) at result levels.new }
 {
     if luma_quadrant_coded(pattern, q as u32) {
         return read_blocks(levels, bits, at, 64 * q, 4, 0);
@@ -95,9 +95,8 @@ fn read_quadrant(
 }
 
 // The eight chroma AC lists, where they are coded.
-fn read_ac(levels: &mut [i32], bits: &[u8], at: usize, pattern: u8) -> Result<usize, Refusal>
-    requires { (length levels.old ≡ 392) × (length bits.now < 2 ^ 61) }
-    ensures { Leaves (read_items 8 18 pattern) (left_items 8 18 pattern) levels.old (bit_list bits.now) at result levels.new }
+fn read_ac(levels: &mut [i32; 392], bits: Bits, at: usize, pattern: u8) -> Result<usize, Refusal>
+    ensures { Leaves (read_items 8 18 pattern) (left_items 8 18 pattern) levels.old (bit_list bits.entry.bytes.now) at result levels.new }
 {
     if chroma_class(pattern) == 2 {
         return read_blocks(levels, bits, at, 264, 8, 1);
@@ -106,9 +105,8 @@ fn read_ac(levels: &mut [i32], bits: &[u8], at: usize, pattern: u8) -> Result<us
 }
 
 // All chroma lists that are coded.
-fn read_chroma(levels: &mut [i32], bits: &[u8], at: usize, pattern: u8) -> Result<usize, Refusal>
-    requires { (length levels.old ≡ 392) × (length bits.now < 2 ^ 61) }
-    ensures { Leaves (read_items 10 16 pattern) (left_items 10 16 pattern) levels.old (bit_list bits.now) at result levels.new }
+fn read_chroma(levels: &mut [i32; 392], bits: Bits, at: usize, pattern: u8) -> Result<usize, Refusal>
+    ensures { Leaves (read_items 10 16 pattern) (left_items 10 16 pattern) levels.old (bit_list bits.entry.bytes.now) at result levels.new }
 {
     if chroma_class(pattern) == 0 {
         return Ok(at);
@@ -118,9 +116,8 @@ fn read_chroma(levels: &mut [i32], bits: &[u8], at: usize, pattern: u8) -> Resul
 }
 
 // All coded lists, each stored at its place.
-pub fn read_items(levels: &mut [i32], bits: &[u8], at: usize, pattern: u8) -> Result<usize, Refusal>
-    requires { (length levels.old ≡ 392) × (length bits.now < 2 ^ 61) }
-    ensures { Leaves (read_items 26 0 pattern) (left_items 26 0 pattern) levels.old (bit_list bits.now) at result levels.new }
+pub fn read_items(levels: &mut [i32; 392], bits: Bits, at: usize, pattern: u8) -> Result<usize, Refusal>
+    ensures { Leaves (read_items 26 0 pattern) (left_items 26 0 pattern) levels.old (bit_list bits.entry.bytes.now) at result levels.new }
 {
     let mut p = at;
     for q in 0..4 {

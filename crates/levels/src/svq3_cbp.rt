@@ -1,10 +1,11 @@
 // The coded block pattern of an inter macroblock. What it means is specs/Pattern.antt.
-ghost use Rattle.std.specs.Prelude.{◌≡◌, ◌<◌, ◌^◌, length, drop};
+ghost use Rattle.std.specs.Prelude.{◌≡◌, ◌<◌, drop};
 ghost use Rattle.bits.specs.Bits.{bit_list};
 ghost use Rattle.refusal.specs.Answered.{answered};
 ghost use Rattle.levels.specs.InnerPattern.{pattern_entry};
 ghost use Rattle.levels.specs.Pattern.{pattern, class_of, quadrant_coded};
 
+use bits::Bits;
 use bits::svq3::read_universal_code;
 use refusal::Refusal;
 
@@ -25,9 +26,8 @@ fn inter_cbp(code: u32) -> Option<u8>
 }
 
 // A pattern, 0 to 47.
-pub fn read_cbp_inter(bits: &[u8], at: usize) -> Result<(u8, usize), Refusal>
-    requires { length bits.now < 2 ^ 61 }
-    ensures { result ≡ answered at (pattern (drop at (bit_list bits.now))) }
+pub fn read_cbp_inter(bits: Bits, at: usize) -> Result<(u8, usize), Refusal>
+    ensures { result ≡ answered at (pattern (drop at (bit_list bits.entry.bytes.now))) }
 {
     let (code, next) = read_universal_code(bits, at)?;
     let cbp = inter_cbp(code).ok_or(Refusal::InvalidFrameCode(code))?;

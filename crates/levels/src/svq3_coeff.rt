@@ -12,6 +12,7 @@ ghost use Rattle.levels.specs.InnerLevels.{Stepped, Decoded};
 use crate::digits::digit;
 use crate::short_codes::{chroma_dc, normal_scan};
 use crate::svq3_scan::{place_of, positions_of};
+use bits::Bits;
 use bits::svq3::read_universal_code;
 use bits::window::{Window, pass, window_at};
 use refusal::Refusal;
@@ -105,12 +106,11 @@ pub fn resolve_level_run(book: ResidualBook, code: u32) -> Option<(i32, u32)>
 
 // The next code of a list, read from the bytes.
 fn read_level(
-    bits: &[u8],
+    bits: Bits,
     at: usize,
     book: ResidualBook,
 ) -> Result<(Option<(i32, u32)>, usize), Refusal>
-    requires { length bits.now < 2 ^ 61 }
-    ensures { result ≡ answered at (level_run book (drop at (bit_list bits.now))) }
+    ensures { result ≡ answered at (level_run book (drop at (bit_list bits.entry.bytes.now))) }
 {
     let (code, next) = read_universal_code(bits, at)?;
     Ok((resolve_level_run(book, code), next))
@@ -142,22 +142,21 @@ pub struct Taken {
 }
 
 // The next code of a list, read from the bytes, with a window taken anew behind it.
-fn read_next(bits: &[u8], at: usize, book: ResidualBook) -> Result<Taken, Refusal>
-    requires { length bits.now < 2 ^ 61 }
-    ensures { Stepped book (bit_list bits.now) at result }
+fn read_next(bits: Bits, at: usize, book: ResidualBook) -> Result<Taken, Refusal>
+    ensures { Stepped book (bit_list bits.entry.bytes.now) at result }
 {
     let (said, next) = read_level(bits, at, book)?;
     Ok(Taken {
         said,
         next,
-        window: window_at(bits, next),
+        window: window_at(bits.bytes, next),
     })
 }
 
 // The next code of a list: taken from the window where all of its bits are there and are at most seven, else read from the bytes.
-fn next_level(bits: &[u8], at: usize, book: ResidualBook, window: Window) -> Result<Taken, Refusal>
-    requires { (length bits.now < 2 ^ 61) × Shows window.word window.known (drop at (bit_list bits.now)) }
-    ensures { Stepped book (bit_list bits.now) at result }
+fn next_level(bits: Bits, at: usize, book: ResidualBook, window: Window) -> Result<Taken, Refusal>
+    requires { Shows window.word window.known (drop at (bit_list bits.bytes.now)) }
+    ensures { Stepped book (bit_list bits.entry.bytes.now) at result }
 {
     let word = window.word;
     let known = window.known;
@@ -199,19 +198,19 @@ fn clear_list(out: &mut [i32], base: usize, book: ResidualBook)
 fn decode_list(
     out: &mut [i32],
     base: usize,
-    bits: &[u8],
+    bits: Bits,
     at: usize,
     book: ResidualBook,
     start: u32,
 ) -> Result<usize, Refusal>
-    requires { (base + positions book ≤ length out.old) × (start ≤ positions book) × (length bits.now < 2 ^ 61) }
-    ensures { Decoded at (positions book) (block book start (drop at (bit_list bits.now))) out.old base result out.new }
+    requires { (base + positions book ≤ length out.old) × (start ≤ positions book) }
+    ensures { Decoded at (positions book) (block book start (drop at (bit_list bits.entry.bytes.now))) out.old base result out.new }
 {
     let count = positions_of(book);
     clear_list(out, base, book);
     let mut position = start;
     let mut p = at;
-    let mut window = window_at(bits, at);
+    let mut window = window_at(bits.bytes, at);
     loop {
         match next_level(bits, p, book, window) {
             Ok(taken) => {
@@ -241,12 +240,12 @@ fn decode_list(
 pub fn decode_residual_4x4_normal(
     out: &mut [i32],
     base: usize,
-    bits: &[u8],
+    bits: Bits,
     at: usize,
     start: u32,
 ) -> Result<usize, Refusal>
-    requires { (base + 16 ≤ length out.old) × (start ≤ 1) × (length bits.now < 2 ^ 61) }
-    ensures { Decoded at 16 (block ResidualBook.NormalScan start (drop at (bit_list bits.now))) out.old base result out.new }
+    requires { (base + 16 ≤ length out.old) × (start ≤ 1) }
+    ensures { Decoded at 16 (block ResidualBook.NormalScan start (drop at (bit_list bits.entry.bytes.now))) out.old base result out.new }
 {
     decode_list(out, base, bits, at, ResidualBook::NormalScan, start)
 }
@@ -255,11 +254,11 @@ pub fn decode_residual_4x4_normal(
 pub fn decode_chroma_dc_2x2(
     out: &mut [i32],
     base: usize,
-    bits: &[u8],
+    bits: Bits,
     at: usize,
 ) -> Result<usize, Refusal>
-    requires { (base + 4 ≤ length out.old) × (length bits.now < 2 ^ 61) }
-    ensures { Decoded at 4 (block ResidualBook.ChromaDc 0 (drop at (bit_list bits.now))) out.old base result out.new }
+    requires { base + 4 ≤ length out.old }
+    ensures { Decoded at 4 (block ResidualBook.ChromaDc 0 (drop at (bit_list bits.entry.bytes.now))) out.old base result out.new }
 {
     decode_list(out, base, bits, at, ResidualBook::ChromaDc, 0)
 }

@@ -8,7 +8,7 @@ ghost use Rattle.transform.specs.InnerPasses.{Exact};
 use crate::svq3_dequant::{chroma_coeff, dequant_coeff};
 use crate::svq3_pred::reconstruct_4x4;
 use crate::svq3_recon::{add_block, add_chroma_dc_block};
-use crate::{Scale, Square, exact};
+use crate::{Quantiser, Scale, Square, exact};
 
 // Each function goes over the four blocks itself: a loop is two lines, and one function that takes a closure for them is no shorter.
 
@@ -50,19 +50,19 @@ fn add_four(plane: &mut [u8], s: Square, levels: &[i32], scale: Scale, dc: &[i32
 }
 
 // The four blocks of a luma quadrant.
-pub fn add_luma_quadrant(plane: &mut [u8], s: Square, levels: &[i32], q: u32)
+pub fn add_luma_quadrant(plane: &mut [u8], s: Square, levels: &[i32], q: Quantiser)
     requires inside { SquareIn s 8 (length plane.old) }
-    requires levels { (64 ≤ length levels.now) × (q ≤ 31) }
-    ensures { plane.new ≡ added_four plane.old s.stride s.x s.y (λ b. luma_residual q levels.now (16 * b)) }
+    requires levels { 64 ≤ length levels.now }
+    ensures { plane.new ≡ added_four plane.old s.stride s.x s.y (λ b. luma_residual q.number levels.now (16 * b)) }
 {
     add_four(plane, s, levels, dequant_coeff(q), &[0; 4]);
 }
 
 // The four blocks of a chroma plane, each with its DC.
-pub fn add_chroma_blocks(plane: &mut [u8], s: Square, levels: &[i32], q: u32, dc: &[i32; 4])
+pub fn add_chroma_blocks(plane: &mut [u8], s: Square, levels: &[i32], q: Quantiser, dc: &[i32; 4])
     requires inside { SquareIn s 8 (length plane.old) }
-    requires levels { (64 ≤ length levels.now) × (q ≤ 31) }
-    ensures { plane.new ≡ added_four plane.old s.stride s.x s.y (λ b. chroma_residual q (get_or dc.now b (pos 0)) levels.now (16 * b)) }
+    requires levels { 64 ≤ length levels.now }
+    ensures { plane.new ≡ added_four plane.old s.stride s.x s.y (λ b. chroma_residual q.number (get_or dc.now b (pos 0)) levels.now (16 * b)) }
 {
     add_four(plane, s, levels, chroma_coeff(q), dc);
 }

@@ -30,6 +30,13 @@ impl Square {
     }
 }
 
+// A quantiser: the place of an entry in its table.
+#[derive(Clone, Copy)]
+pub struct Quantiser {
+    pub number: u32,
+    pub ghost ranged: { number ≤ 31 },
+}
+
 // What a level is multiplied by: an entry of the quantiser's table.
 #[derive(Clone, Copy)]
 pub struct Scale {

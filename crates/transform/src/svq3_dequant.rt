@@ -6,7 +6,7 @@ ghost use Rattle.transform.specs.Residual.{placed, listed, scaled, rows_of, roun
 ghost use Rattle.transform.specs.ChromaDc.{sat_half, secondary, chroma_dc};
 ghost use Rattle.transform.specs.InnerArrays.{turned, dot, weighed_row, short, shortened, finished};
 
-use crate::Scale;
+use crate::{Quantiser, Scale};
 use std::array;
 
 const DEQUANT_COEFF_TABLE: [u32; 32] = [
@@ -27,26 +27,26 @@ const MATRIX: [[i8; 4]; 4] = [
     [13, -17, 13, -7],
 ];
 
-pub fn dequant_coeff(q: u32) -> Scale
-    requires { q ≤ 31 }
-    ensures { result.by ≡ dequant_coeff q }
+pub fn dequant_coeff(q: Quantiser) -> Scale
+    ensures { result.by ≡ dequant_coeff q.number }
 {
     Scale {
-        by: DEQUANT_COEFF_TABLE[q as usize],
+        by: DEQUANT_COEFF_TABLE[q.number as usize],
     }
 }
 
-pub fn chroma_quantiser_index(q: u32) -> u32
-    requires { q ≤ 31 }
-    ensures { result ≡ chroma_quantiser_index q }
+// The quantiser whose entry scales the chroma levels.
+pub fn chroma_quantiser_index(q: Quantiser) -> Quantiser
+    ensures { result.number ≡ chroma_quantiser_index q.number }
 {
-    CHROMA_QUANTISER_INDEX[q as usize]
+    Quantiser {
+        number: CHROMA_QUANTISER_INDEX[q.number as usize],
+    }
 }
 
 // What a chroma level is multiplied by.
-pub fn chroma_coeff(q: u32) -> Scale
-    requires { q ≤ 31 }
-    ensures { result.by ≡ chroma_coeff q }
+pub fn chroma_coeff(q: Quantiser) -> Scale
+    ensures { result.by ≡ chroma_coeff q.number }
 {
     dequant_coeff(chroma_quantiser_index(q))
 }
@@ -148,9 +148,9 @@ pub fn chroma_dc_secondary_transform(a: i32, b: i32, c: i32, d: i32) -> [i32; 4]
 }
 
 // The DC of the four blocks of a chroma plane, from the first four levels.
-pub fn dequantize_chroma_dc_levels(levels: &[i32], q: u32) -> [i32; 4]
-    requires { (4 ≤ length levels.now) × (q ≤ 31) }
-    ensures { result ≡ chroma_dc (chroma_coeff q) levels.now 0 }
+pub fn dequantize_chroma_dc_levels(levels: &[i32], q: Quantiser) -> [i32; 4]
+    requires { 4 ≤ length levels.now }
+    ensures { result ≡ chroma_dc (chroma_coeff q.number) levels.now 0 }
 {
     let scale = chroma_coeff(q);
     let a = scale_level(levels[0], scale);

@@ -16,7 +16,7 @@ use Rattle.bits.proofs.pair.read_signed_pair.Goals as goal
 pub returns : goal.returns
 returns c =
     let a = c.args in
-    let s = bit_list a.bits.now in
+    let s = bit_list a.bits.bytes.now in
     let w = c.word_here-here in
     let f = c.code_start-first in
     let g = c.code_start-second in

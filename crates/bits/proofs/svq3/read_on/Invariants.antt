@@ -5,7 +5,7 @@ use Prim.Native.Nat.{◌≤◌, ◌<◌, ◌+◌, ◌*◌, ◌^◌}
 use Rattle.bits.proofs.svq3.read_on.Given as goal
 
 abbrev pub invariant-loop-p : goal.invariant-loop-p
-invariant-loop-p l = (code_rest l.bits l.p l.room l.m ≡ code_rest l.bits l.at l.spare l.head) × ((l.m + 1) * 2 ^ l.room ≤ 2 ^ 32) × (0 < l.m)
+invariant-loop-p l = (code_rest l.bits.bytes.now l.p l.room l.m ≡ code_rest l.bits.bytes.now l.at l.spare l.head) × ((l.m + 1) * 2 ^ l.room ≤ 2 ^ 32) × (0 < l.m)
 
 abbrev pub decreases-loop-p : goal.decreases-loop-p
 decreases-loop-p l = l.room

@@ -11,14 +11,14 @@ unfolding code
 returns-then-bits-at c = c.read_on.ensures
 
 pub read_on-requires-then-before-eq10 : goal.read_on-requires-then-before-eq10
-read_on-requires-then-before-eq10 c = let s = c.code_start-start.ensures in (omega arith, omega (arith, s.small), omega (arith, s.more c.if-before-eq10.true))
+read_on-requires-then-before-eq10 c = let s = c.code_start-start.ensures in (omega (arith, s.small), omega (arith, s.more c.if-before-eq10.true))
 
 pub returns-then-before-eq10 : goal.returns-then-before-eq10
 returns-then-before-eq10 c =
     let a = c.args in
     let w = c.nine_at in
     let s = c.code_start-start in
-    c.read_on-then-before-eq10.ensures ∙ later (bit_list a.bits.now) a.at w.result s.result.before s.result.head w.ensures.1 s.ensures c.if-before-eq10.true
+    c.read_on-then-before-eq10.ensures ∙ later (bit_list a.bits.bytes.now) a.at w.result s.result.before s.result.head w.ensures.1 s.ensures c.if-before-eq10.true
 
 pub overflow_sub-result : goal.overflow_sub-result
 overflow_sub-result c = let s = c.code_start-start.ensures in omega (arith, s.within, s.some, s.small)
@@ -34,4 +34,4 @@ returns c =
     let a = c.args in
     let w = c.nine_at in
     let s = c.code_start-start in
-    at_once (bit_list a.bits.now) a.at w.result s.result.before s.result.head w.ensures.1 s.ensures w.ensures.2 (omega (arith, s.ensures.within, c.if-before-eq10.false))
+    at_once (bit_list a.bits.bytes.now) a.at w.result s.result.before s.result.head w.ensures.1 s.ensures w.ensures.2 (omega (arith, s.ensures.within, c.if-before-eq10.false))

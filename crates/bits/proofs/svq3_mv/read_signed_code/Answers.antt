@@ -16,11 +16,11 @@ pub returns-in_err-k : goal.returns-in_err-k
 unfolding signed_code
 returns-in_err-k c =
     let a = c.args in
-    handed _ _ c.from_residual.ensures ∙ refused-map signed_of a.at (code (drop a.at (bit_list a.bits.now))) _ (sym c.in_err-k.was ∙ c.read_universal_code.ensures)
+    handed _ _ c.from_residual.ensures ∙ refused-map signed_of a.at (code (drop a.at (bit_list a.bits.bytes.now))) _ (sym c.in_err-k.was ∙ c.read_universal_code.ensures)
 
 pub returns : goal.returns
 unfolding signed_code
 returns c =
     let a = c.args in
     ap (λ (z : ℤ). Ok (z, c.in_ok-k.next)) (to_z-of_z {w = w32} (record { sfits = c.signed_of.type_inv }) ∙ c.signed_of.ensures)
-    ∙ answered-map signed_of a.at (code (drop a.at (bit_list a.bits.now))) _ _ (sym c.in_ok-k.was ∙ c.read_universal_code.ensures)
+    ∙ answered-map signed_of a.at (code (drop a.at (bit_list a.bits.bytes.now))) _ _ (sym c.in_ok-k.was ∙ c.read_universal_code.ensures)

@@ -9,10 +9,10 @@ pub returns-then-chroma_class-eq2 : goal.returns-then-chroma_class-eq2
 returns-then-chroma_class-eq2 c =
     let a = c.args in
     let t = class-two a.pattern (sym c.chroma_class.ensures ∙ c.if-chroma_class-eq2.true) in
-    side-leaves ac-side a.pattern a.levels.now (bit_list a.bits.now) a.at t 264 ac-place _ _ c.read_blocks.ensures
+    side-leaves ac-side a.pattern a.levels.now (bit_list a.bits.bytes.now) a.at t 264 ac-place _ _ c.read_blocks.ensures
 
 pub returns : goal.returns
 returns c =
     let a = c.args in
     let t = not-class-two a.pattern (λ e. c.if-chroma_class-eq2.false (c.chroma_class.ensures ∙ e)) in
-    side-passed ac-side a.pattern a.levels.now (bit_list a.bits.now) a.at t
+    side-passed ac-side a.pattern a.levels.now (bit_list a.bits.bytes.now) a.at t

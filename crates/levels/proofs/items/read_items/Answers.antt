@@ -9,13 +9,7 @@ use Rattle.levels.proofs.Left.{goes-all, goes_last, quadrant-on, quadrant-stops}
 use Rattle.levels.proofs.items.read_items.Goals as goal
 
 pub loop-q-init : goal.loop-q-init
-loop-q-init c = let a = c.args in (goes-all (read_items 26 0 a.pattern) (left_items 26 0 a.pattern) a.levels.now (bit_list a.bits.now) a.at, omega arith, c.requires.0)
-
-pub read_quadrant-requires : goal.read_quadrant-requires
-read_quadrant-requires c = (c.loop-q.invariant.2, c.requires.1, c.loop-q-test.true)
-
-pub read_chroma-requires : goal.read_chroma-requires
-read_chroma-requires c = (c.loop-q.invariant.2, c.requires.1)
+loop-q-init c = let a = c.args in (goes-all (read_items 26 0 a.pattern) (left_items 26 0 a.pattern) a.levels.now (bit_list a.bits.bytes.now) a.at, omega arith)
 
 pub loop-q-preserved : goal.loop-q-preserved
 loop-q-preserved c =
@@ -23,7 +17,7 @@ loop-q-preserved c =
     let l = c.loop-q in
     let h = c.loop-q-test.true in
     let d = c.read_quadrant in
-    (quadrant-on a.pattern l.q l.p l.levels h l.invariant.0 _ _ d.ensures _ c.in_ok-p.was, omega (arith, h), d.auto.levels ∙ l.invariant.2)
+    (quadrant-on a.pattern l.q l.p l.levels h l.invariant.0 _ _ d.ensures _ c.in_ok-p.was, omega (arith, h))
 
 pub returns-in_err-p : goal.returns-in_err-p
 returns-in_err-p c =

@@ -9,11 +9,11 @@ use Rattle.levels.proofs.items.read_quadrant.Goals as goal
 pub returns-then-luma_quadrant_coded : goal.returns-then-luma_quadrant_coded
 returns-then-luma_quadrant_coded c =
     let a = c.args in
-    let t = luma-coded a.pattern a.q c.requires.2 ∙ sym c.luma_quadrant_coded.ensures ∙ c.if-luma_quadrant_coded.true in
-    side-leaves (luma-side a.q c.requires.2) a.pattern a.levels.now (bit_list a.bits.now) a.at t (64 * a.q) (luma-place a.q c.requires.2) _ _ c.read_blocks.ensures
+    let t = luma-coded a.pattern a.q c.requires ∙ sym c.luma_quadrant_coded.ensures ∙ c.if-luma_quadrant_coded.true in
+    side-leaves (luma-side a.q c.requires) a.pattern a.levels.now (bit_list a.bits.bytes.now) a.at t (64 * a.q) (luma-place a.q c.requires) _ _ c.read_blocks.ensures
 
 pub returns : goal.returns
 returns c =
     let a = c.args in
-    let t = luma-coded a.pattern a.q c.requires.2 ∙ sym c.luma_quadrant_coded.ensures ∙ c.if-luma_quadrant_coded.false in
-    side-passed (luma-side a.q c.requires.2) a.pattern a.levels.now (bit_list a.bits.now) a.at t
+    let t = luma-coded a.pattern a.q c.requires ∙ sym c.luma_quadrant_coded.ensures ∙ c.if-luma_quadrant_coded.false in
+    side-passed (luma-side a.q c.requires) a.pattern a.levels.now (bit_list a.bits.bytes.now) a.at t

@@ -35,16 +35,16 @@ small c =
     omega (arith, placed c, room-now c.loop-taken.invariant.0, e, c.well_formed.0)
 
 -- what the code there says
-said : (c : In-Some) → Ok (Some (c.in-Some.level, c.in-Some.run'), c.in-Ok.taken.next) ≡ answered c.loop-taken.p (level_run c.args.book (drop c.loop-taken.p (bit_list c.args.bits.now)))
+said : (c : In-Some) → Ok (Some (c.in-Some.level, c.in-Some.run'), c.in-Ok.taken.next) ≡ answered c.loop-taken.p (level_run c.args.book (drop c.loop-taken.p (bit_list c.args.bits.bytes.now)))
 said c = sym (ap (λ (x : LevelRun). Ok (x, c.in-Ok.taken.next)) c.in-Some.is) ∙ sym (ap told c.in-Ok.is) ∙ c.next_level.ensures.says
 
 pub loop-taken-init : goal.loop-taken-init
 loop-taken-init c =
     let a = c.args in
-    (begins a.book a.base a.out.now _ c.clear_list.ensures a.start a.at (bit_list a.bits.now) c.requires.1 c.requires.0, c.positions_of-count.ensures, c.window_at-window.ensures)
+    (begins a.book a.base a.out.now _ c.clear_list.ensures a.start a.at (bit_list a.bits.bytes.now) c.requires.1 c.requires.0, c.positions_of-count.ensures, c.window_at-window.ensures)
 
 pub next_level-requires : goal.next_level-requires
-next_level-requires c = (c.requires.2, c.loop-taken.invariant.2)
+next_level-requires c = c.loop-taken.invariant.2
 
 pub overflow_add-reached : goal.overflow_add-reached
 overflow_add-reached c =

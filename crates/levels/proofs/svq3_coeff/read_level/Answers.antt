@@ -13,11 +13,11 @@ pub returns-in_err-code : goal.returns-in_err-code
 unfolding level_run
 returns-in_err-code c =
     let a = c.args in
-    handed _ _ c.from_residual.ensures ∙ refused-map (resolve a.book) a.at (code (drop a.at (bit_list a.bits.now))) _ (sym c.in_err-code.was ∙ c.read_universal_code.ensures)
+    handed _ _ c.from_residual.ensures ∙ refused-map (resolve a.book) a.at (code (drop a.at (bit_list a.bits.bytes.now))) _ (sym c.in_err-code.was ∙ c.read_universal_code.ensures)
 
 pub returns : goal.returns
 unfolding level_run
 returns c =
     let a = c.args in
     ap (λ (x : LevelRun). Ok (x, c.in_ok-code.next)) c.resolve_level_run.ensures
-    ∙ answered-map (resolve a.book) a.at (code (drop a.at (bit_list a.bits.now))) _ _ (sym c.in_ok-code.was ∙ c.read_universal_code.ensures)
+    ∙ answered-map (resolve a.book) a.at (code (drop a.at (bit_list a.bits.bytes.now))) _ _ (sym c.in_ok-code.was ∙ c.read_universal_code.ensures)

@@ -9,9 +9,9 @@ use Rattle.levels.proofs.svq3_coeff.read_next.Goals as goal
 pub returns-in_err-said : goal.returns-in_err-said
 returns-in_err-said c =
     let a = c.args in
-    subst (Stepped a.book (bit_list a.bits.now) a.at) (sym (handed _ _ c.from_residual.ensures)) (refused-stepped a.book (bit_list a.bits.now) a.at _ (sym c.in_err-said.was ∙ c.read_level.ensures))
+    subst (Stepped a.book (bit_list a.bits.bytes.now) a.at) (sym (handed _ _ c.from_residual.ensures)) (refused-stepped a.book (bit_list a.bits.bytes.now) a.at _ (sym c.in_err-said.was ∙ c.read_level.ensures))
 
 pub returns : goal.returns
 returns c =
     let a = c.args in
-    level-stepped a.book (bit_list a.bits.now) a.at _ (sym c.in_ok-said.was ∙ c.read_level.ensures) c.window_at.ensures
+    level-stepped a.book (bit_list a.bits.bytes.now) a.at _ (sym c.in_ok-said.was ∙ c.read_level.ensures) c.window_at.ensures

@@ -8,8 +8,8 @@ use Rattle.transform.proofs.four.add_chroma_blocks.Goals as goal
 
 pub add_four-requires-clause-levels : goal.add_four-requires-clause-levels
 add_four-requires-clause-levels c =
-    let e = chroma-entry c.args.q c.requires.levels.1 in
-    (c.requires.levels.0, omega (arith, c.chroma_coeff.ensures))
+    let e = chroma-entry c.args.q.number c.args.q.ranged in
+    (c.requires.levels, omega (arith, c.chroma_coeff.ensures))
 
 pub returns : goal.returns
 unfolding chroma_residual

@@ -8,8 +8,8 @@ use Rattle.transform.proofs.four.add_luma_quadrant.Goals as goal
 
 pub add_four-requires-clause-levels : goal.add_four-requires-clause-levels
 add_four-requires-clause-levels c =
-    let e = entry c.args.q c.requires.levels.1 in
-    (c.requires.levels.0, omega (arith, c.dequant_coeff.ensures))
+    let e = entry c.args.q.number c.args.q.ranged in
+    (c.requires.levels, omega (arith, c.dequant_coeff.ensures))
 
 pub returns : goal.returns
 unfolding added_four luma_residual

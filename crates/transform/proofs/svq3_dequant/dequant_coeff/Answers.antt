@@ -6,7 +6,7 @@ use Rattle.transform.proofs.svq3_dequant.dequant_coeff.Goals as goal
 
 pub invariant_of-result : goal.invariant_of-result
 unfolding dequant_coeff
-invariant_of-result c = record { small = (entry c.args.q c.requires).1 }
+invariant_of-result c = record { small = (entry c.args.q.number c.args.q.ranged).1 }
 
 pub returns : goal.returns
 unfolding dequant_coeff
