@@ -3,7 +3,7 @@
 use mathlib.Core.Path.{◌≡◌, refl, sym, ap, ◌∙◌, subst}
 use mathlib.Core.Bool.{Bool, true, false, ◌&&◌}
 use mathlib.Core.Logic.{◌↔◌, ⊎_elim}
-use Prim.Native.Nat.{ℕ, zero, suc, ◌+◌, ◌*◌, ◌/◌, ◌%◌, ◌^◌, ◌<◌, ◌≤◌}
+use Prim.Native.Nat.{ℕ, zero, suc, ◌+◌, ◌-◌, ◌*◌, ◌/◌, ◌%◌, ◌^◌, ◌<◌, ◌≤◌}
 use native.Mathlib.Nat.{mul_assoc, mul-mod_left, div-one, mul-le-mul_right, mod-lt, mod-eq_of_lt, div-add-mod', div-mul-le_self, lt-div-mul-add, div-lt_iff_lt-mul, div-eq_of_lt-le, div-eq_of_lt, mul-add-div_right, mul-add-mod_self_right, mul-div_cancel, eq-or-lt_of_le, le_of_suc-le-suc}
 use native.Mathlib.Omega.{arith}
 use lib.Pow.{pow_pos}
@@ -110,23 +110,37 @@ module _ (u mode i : ℕ) (some : 0 < u) (c : Cut u mode) where
 one_more : (n k w : ℕ) → n < k → n * w + w ≤ k * w
 one_more n k w h = omega (arith, mul-le-mul_right w h)
 
+-- among the blocks that fit: in a mode that is no skip its partitions, in a skip one
+abbrev pub Among : ℕ → ℕ → Type 0
+Among mode i = i < 16 / partition_width mode * (16 / partition_height mode)
+
+pub among : (mode i : ℕ) → mode ≤ 7 → i ≤ num_motion_vectors mode - 1 → Among mode i
+unfolding partition_width partition_height num_motion_vectors
+among mode i k l =
+    let m = ltb→lt _ _ (all-at (λ m. ltb (num_motion_vectors m - 1) (16 / partition_width m * (16 / partition_height m))) 8 tt mode (omega arith)) in
+    omega (arith, m, l)
+
 -- INSIDE: a partition lies in its macroblock
-pub inside-units : (e mode i : ℕ) → e ≤ 2 → mode ≤ 7 → i < num_motion_vectors mode
+inside-among : (e mode i : ℕ) → e ≤ 2 → mode ≤ 7 → Among mode i
     → (offset_x mode i / 2 ^ e + partition_width mode / 2 ^ e ≤ 16 / 2 ^ e) × (offset_y mode i / 2 ^ e + partition_height mode / 2 ^ e ≤ 16 / 2 ^ e)
-inside-units e mode i h k l =
+inside-among e mode i h k l =
     let c = cut e mode h k in
-    let m : i < 16 / partition_height mode * (16 / partition_width mode) = omega (arith, c.count) in (
+    let m : i < 16 / partition_height mode * (16 / partition_width mode) = omega (arith, l) in (
       rw (offset-x (2 ^ e) mode i (pow_pos e) c, ← c.across) (one_more (i % (16 / partition_width mode)) (16 / partition_width mode) (partition_width mode / 2 ^ e) (mod-lt i c.row)),
       rw (offset-y (2 ^ e) mode i (pow_pos e) c, ← c.down) (one_more (i / (16 / partition_width mode)) (16 / partition_height mode) (partition_height mode / 2 ^ e) ((div-lt_iff_lt-mul c.row).1 m)),
     )
+
+pub inside-units : (e mode i : ℕ) → e ≤ 2 → mode ≤ 7 → i < num_motion_vectors mode
+    → (offset_x mode i / 2 ^ e + partition_width mode / 2 ^ e ≤ 16 / 2 ^ e) × (offset_y mode i / 2 ^ e + partition_height mode / 2 ^ e ≤ 16 / 2 ^ e)
+inside-units e mode i h k l = inside-among e mode i h k (omega (arith, l, (cut e mode h k).count))
 
 pub inside : (mode i : ℕ) → mode ≤ 7 → i < num_motion_vectors mode → (offset_x mode i + partition_width mode ≤ 16) × (offset_y mode i + partition_height mode ≤ 16)
 inside mode i k l = simp div-one at (inside-units 0 mode i (omega arith) k l)
 
 -- a partition of a mode, in cells
-pub part_of : (mode i : ℕ) → mode ≤ 7 → i < num_motion_vectors mode → Part (offset_x mode i / 4) (offset_y mode i / 4) (partition_width mode / 4) (partition_height mode / 4)
+pub part_of : (mode i : ℕ) → mode ≤ 7 → Among mode i → Part (offset_x mode i / 4) (offset_y mode i / 4) (partition_width mode / 4) (partition_height mode / 4)
 part_of mode i k l =
-    let h = inside-units 2 mode i (omega arith) k l in
+    let h = inside-among 2 mode i (omega arith) k l in
     let c = cut 2 mode (omega arith) k in
     record {
       across = h.0;
@@ -194,14 +208,35 @@ exactly-one e mode a b h z k l m = record {
 pub mode-byte : (word : ℕ) (table : ℕ → ℕ) → T (all (λ m. eqb (word / 2 ^ (8 * m) % 256) (table m)) 8) → (mode : ℕ) → mode ≤ 7 → word / 2 ^ (8 * mode) % 256 ≡ table mode
 mode-byte word table t mode k = eqb→eq _ _ (all-at (λ m. eqb (word / 2 ^ (8 * m) % 256) (table m)) 8 t mode (omega arith))
 
-pub offset-x-is : (mode i : ℕ) → mode ≤ 7 → i < 16 → i * partition_width mode % 16 ≡ offset_x mode i
-unfolding partition_width offset_x
-offset-x-is mode i k l = eqb→eq _ _ (all-at (λ j. eqb (j * partition_width mode % 16) (offset_x mode j)) 16 (all-at (λ m. all (λ j. eqb (j * partition_width m % 16) (offset_x m j)) 16) 8 tt mode (omega arith)) i l)
+-- a rule of sixteen partitions of a mode
+each : (f : ℕ → ℕ → Bool) → T (all (λ m. all (f m) 16) 8) → (mode i : ℕ) → mode ≤ 7 → i < 16 → T (f mode i)
+each f t mode i k l = all-at (f mode) 16 (all-at (λ m. all (f m) 16) 8 t mode (omega arith)) i l
 
-pub offset-y-is : (mode i : ℕ) → mode ≤ 7 → i < 16 → i * partition_width mode / 16 * partition_height mode ≡ offset_y mode i
-unfolding partition_width partition_height offset_y
-offset-y-is mode i k l = eqb→eq _ _ (all-at (λ j. eqb (j * partition_width mode / 16 * partition_height mode) (offset_y mode j)) 16 (all-at (λ m. all (λ j. eqb (j * partition_width m / 16 * partition_height m) (offset_y m j)) 16) 8 tt mode (omega arith)) i l)
+-- partition i of a mode in cells, as the code has it
+pub record InCells (mode i : ℕ) : Type 0 where
+  pub few : i < 16
+  pub x : i * (partition_width mode / 4) % 4 ≡ offset_x mode i / 4
+  pub y : i * (partition_width mode / 4) / 4 * (partition_height mode / 4) ≡ offset_y mode i / 4
+  pub product : i * (partition_width mode / 4) ≤ 64
+  pub x-in_samples : 4 * (offset_x mode i / 4) ≡ offset_x mode i
+  pub y-in_samples : 4 * (offset_y mode i / 4) ≡ offset_y mode i
+  pub wide-in_samples : 4 * (partition_width mode / 4) ≡ partition_width mode
+  pub high-in_samples : 4 * (partition_height mode / 4) ≡ partition_height mode
+  pub part : Part (offset_x mode i / 4) (offset_y mode i / 4) (partition_width mode / 4) (partition_height mode / 4)
 
-pub product : (mode i : ℕ) → mode ≤ 7 → i < 16 → i * partition_width mode ≤ 256
-unfolding partition_width
-product mode i k l = leb→le _ _ (all-at (λ j. leb (j * partition_width mode) 256) 16 (all-at (λ m. all (λ j. leb (j * partition_width m) 256) 16) 8 tt mode (omega arith)) i l)
+pub in_cells : (mode i : ℕ) → mode ≤ 7 → i ≤ num_motion_vectors mode - 1 → InCells mode i
+unfolding partition_width partition_height offset_x offset_y
+in_cells mode i k l = record {
+  few = few;
+  x = eqb→eq _ _ (each (λ m j. eqb (j * (partition_width m / 4) % 4) (offset_x m j / 4)) tt mode i k few);
+  y = eqb→eq _ _ (each (λ m j. eqb (j * (partition_width m / 4) / 4 * (partition_height m / 4)) (offset_y m j / 4)) tt mode i k few);
+  product = leb→le _ _ (each (λ m j. leb (j * (partition_width m / 4)) 64) tt mode i k few);
+  x-in_samples = eqb→eq _ _ (each (λ m j. eqb (4 * (offset_x m j / 4)) (offset_x m j)) tt mode i k few);
+  y-in_samples = eqb→eq _ _ (each (λ m j. eqb (4 * (offset_y m j / 4)) (offset_y m j)) tt mode i k few);
+  wide-in_samples = omega (arith, (cut 2 mode (omega arith) k).exact-w);
+  high-in_samples = omega (arith, (cut 2 mode (omega arith) k).exact-h);
+  part = part_of mode i k (among mode i k l);
+}
+  where
+    few : i < 16
+    few = omega (arith, num-most mode k, l)

@@ -1,5 +1,5 @@
 // Partitions by mode, the mode being the number of a call, and the precision selector.
-ghost use Rattle.std.specs.Prelude.{◌≡◌, ◌*◌, ◌/◌, ◌%◌, ◌≤◌, ◌<◌, ◌^◌, length, drop};
+ghost use Rattle.std.specs.Prelude.{◌≡◌, ◌-◌, ◌*◌, ◌/◌, ◌%◌, ◌≤◌, ◌^◌, drop};
 ghost use Rattle.bits.specs.Bits.{bit_list};
 ghost use Rattle.refusal.specs.Answered.{answered};
 ghost use Rattle.vectors.specs.Modes.{partition_width, partition_height, num_motion_vectors, offset_x, offset_y};
@@ -7,18 +7,20 @@ ghost use Rattle.vectors.specs.Precision.{precision_number, one_flag, both_flags
 ghost use Rattle.vectors.specs.InnerWindow.{Part};
 ghost use Rattle.vectors.specs.InnerPrecision.{first_bit};
 
+use bits::Bits;
 use bits::bitreader::bit_at;
 use refusal::Refusal;
 
-// By mode, a byte each, mode 0's the lowest. The compiler stores an array anew wherever it is read, and with a match the loop over
-// sixteen partitions took 13 % more instructions.
-const WIDTHS: u64 = 0x0408_0408_1008_1010;
+// By mode, a byte each, mode 0's the lowest; widths and heights in 4 × 4 cells. The compiler stores an array anew wherever it is read, and
+// with a match the loop over sixteen partitions took 13 % more instructions.
+const WIDTHS: u64 = 0x0102_0102_0402_0404;
 
-const HEIGHTS: u64 = 0x0404_0808_0810_1010;
+const HEIGHTS: u64 = 0x0101_0202_0204_0404;
 
 const COUNTS: u64 = 0x1008_0804_0202_0100;
 
-// A mode's byte.
+// A mode's byte. In this file a mode is its number, with the clause that it is at most 7, for the reason that state's Call gives: a type
+// that no other number has would ask more of callers.
 fn of_mode(table: u64, mode: u32) -> usize
     requires { mode ≤ 7 }
     ensures { result ≡ table / 2 ^ (8 * mode) % 256 }
@@ -27,46 +29,12 @@ fn of_mode(table: u64, mode: u32) -> usize
     ((table >> shift) % 256) as usize
 }
 
-// The width of a partition in luma samples.
-pub fn partition_width(mode: u32) -> usize
-    requires { mode ≤ 7 }
-    ensures { result ≡ partition_width mode }
-{
-    of_mode(WIDTHS, mode)
-}
-
-// The height of a partition in luma samples.
-pub fn partition_height(mode: u32) -> usize
-    requires { mode ≤ 7 }
-    ensures { result ≡ partition_height mode }
-{
-    of_mode(HEIGHTS, mode)
-}
-
 // The number of partitions, each with one vector.
 pub fn num_motion_vectors(mode: u32) -> usize
     requires { mode ≤ 7 }
     ensures { result ≡ num_motion_vectors mode }
 {
     of_mode(COUNTS, mode)
-}
-
-// Where partition i starts in its macroblock, in luma samples.
-pub fn partition_offset_x(mode: u32, i: usize) -> usize
-    requires { (mode ≤ 7) × (i < num_motion_vectors mode) }
-    ensures { result ≡ offset_x mode i }
-{
-    let w = partition_width(mode);
-    i * w % 16
-}
-
-pub fn partition_offset_y(mode: u32, i: usize) -> usize
-    requires { (mode ≤ 7) × (i < num_motion_vectors mode) }
-    ensures { result ≡ offset_y mode i }
-{
-    let w = partition_width(mode);
-    let h = partition_height(mode);
-    i * w / 16 * h
 }
 
 // Where a partition lies in its macroblock, in 4 × 4 cells.
@@ -80,16 +48,19 @@ pub struct Partition {
 }
 
 impl Partition {
-    // Partition i of a mode.
+    // Partition i of a mode; a skip is one.
     pub fn of_mode(mode: u32, i: usize) -> Self
-        requires { (mode ≤ 7) × (i < num_motion_vectors mode) }
-        ensures { (result.x ≡ offset_x mode i / 4) × (result.y ≡ offset_y mode i / 4) × (result.wide ≡ partition_width mode / 4) × (result.high ≡ partition_height mode / 4) }
+        requires { (mode ≤ 7) × (i ≤ num_motion_vectors mode - 1) }
+        ensures in_cells { (result.x ≡ offset_x mode i / 4) × (result.y ≡ offset_y mode i / 4) × (result.wide ≡ partition_width mode / 4) × (result.high ≡ partition_height mode / 4) }
+        ensures in_samples { (4 * result.x ≡ offset_x mode i) × (4 * result.y ≡ offset_y mode i) × (4 * result.wide ≡ partition_width mode) × (4 * result.high ≡ partition_height mode) }
     {
+        let wide = of_mode(WIDTHS, mode);
+        let high = of_mode(HEIGHTS, mode);
         Partition {
-            x: partition_offset_x(mode, i) / 4,
-            y: partition_offset_y(mode, i) / 4,
-            wide: partition_width(mode) / 4,
-            high: partition_height(mode) / 4,
+            x: i * wide % 4,
+            y: i * wide / 4 * high,
+            wide,
+            high,
         }
     }
 }
@@ -110,13 +81,12 @@ pub fn precision_number(p: Svq3MvPrecision) -> u32
 
 // The precision selector at a place.
 pub fn read_inter_mv_precision_p_frame(
-    bits: &[u8],
+    bits: Bits,
     at: usize,
     thirdpel: bool,
     halfpel: bool,
 ) -> Result<(Svq3MvPrecision, usize), Refusal>
-    requires { length bits.now < 2 ^ 61 }
-    ensures { result ≡ answered at (precision halfpel thirdpel (drop at (bit_list bits.now))) }
+    ensures { result ≡ answered at (precision halfpel thirdpel (drop at (bit_list bits.entry.bytes.now))) }
 {
     match (halfpel, thirdpel) {
         (true, true) => both_flags(bits, at),
@@ -127,29 +97,26 @@ pub fn read_inter_mv_precision_p_frame(
 }
 
 // The bit at a place.
-fn read_bit(bits: &[u8], at: usize) -> Result<(bool, usize), Refusal>
-    requires { length bits.now < 2 ^ 61 }
-    ensures { result ≡ answered at (first_bit (drop at (bit_list bits.now))) }
+fn read_bit(bits: Bits, at: usize) -> Result<(bool, usize), Refusal>
+    ensures { result ≡ answered at (first_bit (drop at (bit_list bits.entry.bytes.now))) }
 {
-    if bits.len() <= at / 8 {
+    if bits.bytes.len() <= at / 8 {
         return Err(Refusal::Truncated);
     }
-    Ok((bit_at(bits, at), at + 1))
+    Ok((bit_at(bits.bytes, at), at + 1))
 }
 
 // The flag of p alone is set.
-fn one_flag(bits: &[u8], at: usize, p: Svq3MvPrecision) -> Result<(Svq3MvPrecision, usize), Refusal>
-    requires { length bits.now < 2 ^ 61 }
-    ensures { result ≡ answered at (one_flag p (drop at (bit_list bits.now))) }
+fn one_flag(bits: Bits, at: usize, p: Svq3MvPrecision) -> Result<(Svq3MvPrecision, usize), Refusal>
+    ensures { result ≡ answered at (one_flag p (drop at (bit_list bits.entry.bytes.now))) }
 {
     let (set, next) = read_bit(bits, at)?;
     Ok((if set { p } else { Svq3MvPrecision::Fullpel }, next))
 }
 
 // Both flags are set.
-fn both_flags(bits: &[u8], at: usize) -> Result<(Svq3MvPrecision, usize), Refusal>
-    requires { length bits.now < 2 ^ 61 }
-    ensures { result ≡ answered at (both_flags (drop at (bit_list bits.now))) }
+fn both_flags(bits: Bits, at: usize) -> Result<(Svq3MvPrecision, usize), Refusal>
+    ensures { result ≡ answered at (both_flags (drop at (bit_list bits.entry.bytes.now))) }
 {
     let (coarse, second) = read_bit(bits, at)?;
     if !coarse {

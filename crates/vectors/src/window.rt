@@ -9,7 +9,7 @@ ghost use Rattle.vectors.specs.Predict.{above_left_of, combined, predictor};
 
 use crate::svq3_frame::{Vector, combined, held_in, median_of};
 use crate::svq3_mb::Partition;
-use picture::Grid;
+use picture::{Cells, Grid};
 
 // 6 × 5 cells by rows: the macroblock's 4 × 4, a column on either side and a row above.
 // Two arrays: as one of Option<Vector>, loading, prediction and storing took a quarter more instructions.
@@ -44,72 +44,57 @@ impl Neighbours {
     }
 
     // The cell above and to the left of (x, y), as cell k; marked 0 off the picture.
-    fn load_cell(&mut self, mv: &[i32], marks: &[u8], cols: usize, x: usize, y: usize, k: usize)
-        requires { (k < 30) × (cols ≤ 4096) × (length mv.now ≡ 2 * length marks.now) × (y * (4 * cols) ≤ length marks.now) }
-        ensures loaded { (rows : ℕ) → y ≤ 4 * rows → shown_at self.new k ≡ above_left_of (lent_field cols rows mv.now marks.now) x y }
+    fn load_cell(&mut self, cells: Cells, x: usize, y: usize, k: usize)
+        requires { (k < 30) × (y * (4 * cells.grid.cols) ≤ length cells.marks.now) }
+        ensures loaded { (rows : ℕ) → y ≤ 4 * rows → shown_at self.new k ≡ above_left_of (lent_field cells.entry.grid.cols rows cells.entry.mv.now cells.entry.marks.now) x y }
         ensures others { (j : ℕ) → (j ≡ k → ⊥) → shown_at self.new j ≡ shown_at self.old j }
     {
-        let stride = 4 * cols;
+        let stride = 4 * cells.grid.cols;
         if (x == 0) | (y == 0) | (stride < x) {
             self.marks[k] = 0;
         } else {
             let i = (y - 1) * stride + (x - 1);
-            self.set_cell(k, marks[i], Vector::at(mv, i));
+            self.set_cell(k, cells.marks[i], Vector::at(cells.mv, i));
         }
     }
 
     // The row above y, from the column left of the macroblock on, as the six cells from `at` on.
-    fn load_row(
-        &mut self,
-        mv: &[i32],
-        marks: &[u8],
-        cols: usize,
-        column: usize,
-        y: usize,
-        at: usize,
-    )
-        requires { (at + 6 ≤ 30) × (cols ≤ 4096) × (column < cols) × (length mv.now ≡ 2 * length marks.now) × (y * (4 * cols) ≤ length marks.now) }
-        ensures loaded { (rows : ℕ) → y ≤ 4 * rows → (c : ℕ) → c < 6 → shown_at self.new (at + c) ≡ above_left_of (lent_field cols rows mv.now marks.now) (4 * column + c) y }
+    fn load_row(&mut self, cells: Cells, column: usize, y: usize, at: usize)
+        requires { (at + 6 ≤ 30) × (column < cells.grid.cols) × (y * (4 * cells.grid.cols) ≤ length cells.marks.now) }
+        ensures loaded { (rows : ℕ) → y ≤ 4 * rows → (c : ℕ) → c < 6 → shown_at self.new (at + c) ≡ above_left_of (lent_field cells.entry.grid.cols rows cells.entry.mv.now cells.entry.marks.now) (4 * column + c) y }
         ensures others { (j : ℕ) → j < at → shown_at self.new j ≡ shown_at self.old j }
     {
         for c in 0..6 {
-            self.load_cell(mv, marks, cols, 4 * column + c, y, at + c);
+            self.load_cell(cells, 4 * column + c, y, at + c);
         }
     }
 
     // The same of a row whose six cells all lie on the picture.
-    fn copy_row(
-        &mut self,
-        mv: &[i32],
-        marks: &[u8],
-        cols: usize,
-        column: usize,
-        y: usize,
-        at: usize,
-    )
-        requires lent { (at + 6 ≤ 30) × (cols ≤ 4096) × (length mv.now ≡ 2 * length marks.now) × (y * (4 * cols) ≤ length marks.now) }
-        requires whole { (0 < column) × (0 < y) × (column + 1 < cols) }
-        ensures loaded { (rows : ℕ) → y ≤ 4 * rows → (c : ℕ) → c < 6 → shown_at self.new (at + c) ≡ above_left_of (lent_field cols rows mv.now marks.now) (4 * column + c) y }
+    fn copy_row(&mut self, cells: Cells, column: usize, y: usize, at: usize)
+        requires lent { (at + 6 ≤ 30) × (y * (4 * cells.grid.cols) ≤ length cells.marks.now) }
+        requires whole { (0 < column) × (0 < y) × (column + 1 < cells.grid.cols) }
+        ensures loaded { (rows : ℕ) → y ≤ 4 * rows → (c : ℕ) → c < 6 → shown_at self.new (at + c) ≡ above_left_of (lent_field cells.entry.grid.cols rows cells.entry.mv.now cells.entry.marks.now) (4 * column + c) y }
         ensures others { (j : ℕ) → j < at → shown_at self.new j ≡ shown_at self.old j }
     {
-        let from = (y - 1) * (4 * cols) + (4 * column - 1);
+        let from = (y - 1) * (4 * cells.grid.cols) + (4 * column - 1);
         for c in 0..6 {
-            self.set_cell(at + c, marks[from + c], Vector::at(mv, from + c));
+            let i = from + c;
+            self.set_cell(at + c, cells.marks[i], Vector::at(cells.mv, i));
         }
     }
 
     // The window of a macroblock. As a result it would be copied: 10 % more instructions with prediction and storing.
-    pub fn load(&mut self, mv: &[i32], marks: &[u8], grid: Grid, column: usize, row: usize)
-        requires { (grid.cols ≤ 4096) × (row < grid.rows) × (length mv.now ≡ 2 * length marks.now) × Inside (4 * grid.cols) (4 * column) (4 * row) 4 4 (length marks.now) }
-        ensures { (wide high : ℕ) → Seen wide high (lent_field grid.cols grid.rows mv.now marks.now) column row self.new }
+    pub fn load(&mut self, cells: Cells, column: usize, row: usize)
+        requires { (row < cells.grid.rows) × Inside (4 * cells.grid.cols) (4 * column) (4 * row) 4 4 (length cells.marks.now) }
+        ensures { (wide high : ℕ) → Seen wide high (lent_field cells.entry.grid.cols cells.entry.grid.rows cells.entry.mv.now cells.entry.marks.now) column row self.new }
     {
         // Where all cells lie on the picture they are copied untested: with the tests it took 6 % more instructions.
-        let whole = (0 < column) & (0 < row) & (column + 1 < grid.cols);
+        let whole = (0 < column) & (0 < row) & (column + 1 < cells.grid.cols);
         for r in 0..5 {
             if whole {
-                self.copy_row(mv, marks, grid.cols, column, 4 * row + r, r * 6);
+                self.copy_row(cells, column, 4 * row + r, r * 6);
             } else {
-                self.load_row(mv, marks, grid.cols, column, 4 * row + r, r * 6);
+                self.load_row(cells, column, 4 * row + r, r * 6);
             }
         }
     }

@@ -16,13 +16,13 @@ loop-c-preserved c =
     let l = c.loop-c in
     let s = c.set_cell.ensures in
     let h = c.requires.whole in
-    let m = get_or a.marks.now ((a.y - 1) * (4 * a.cols) + (4 * a.column - 1) + l.c) 0 in
+    let m = get_or a.cells.marks.now ((a.y - 1) * (4 * a.cells.grid.cols) + (4 * a.column - 1) + l.c) 0 in
     let other = set-other l.self c.set_cell.new.self (a.at + l.c) m _ s.vectors_after s.marks_after in (
       (λ rows k.
           below_more _ l.c
           (λ d lt. other (a.at + d) (λ e. omega arith) ∙ l.invariant.0 rows k d lt)
           (set_shows l.self _ (a.at + l.c) m _ s.vectors_after s.marks_after (omega arith)
           ∙ ap (shown m) c.at.ensures
-          ∙ whole-shows a.cols rows a.mv.now a.marks.now a.column a.y l.c h.0 h.1 h.2 k (omega arith))),
+          ∙ whole-shows a.cells.grid.cols rows a.cells.mv.now a.cells.marks.now a.column a.y l.c h.0 h.1 h.2 k (omega arith))),
       (λ j lt. other j (λ e. omega arith) ∙ l.invariant.1 j lt),
     )

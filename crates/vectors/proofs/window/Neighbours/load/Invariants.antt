@@ -8,4 +8,4 @@ use Rattle.vectors.proofs.window.Neighbours.load.Given as goal
 
 abbrev pub invariant-loop-r : goal.invariant-loop-r
 invariant-loop-r l =
-    (q : ℕ) → q < l.r → (c : ℕ) → c < 6 → shown_at l.self (q * 6 + c) ≡ above_left_of (lent_field l.grid.cols l.grid.rows l.mv l.marks) (4 * l.column + c) (4 * l.row + q)
+    (q : ℕ) → q < l.r → (c : ℕ) → c < 6 → shown_at l.self (q * 6 + c) ≡ above_left_of (lent_field l.cells.grid.cols l.cells.grid.rows l.cells.mv.now l.cells.marks.now) (4 * l.column + c) (4 * l.row + q)

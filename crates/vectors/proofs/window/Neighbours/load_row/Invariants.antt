@@ -8,5 +8,5 @@ use Rattle.vectors.proofs.window.Neighbours.load_row.Given as goal
 
 abbrev pub invariant-loop-c : goal.invariant-loop-c
 invariant-loop-c l =
-    ((rows : ℕ) → l.y ≤ 4 * rows → (d : ℕ) → d < l.c → shown_at l.self (l.at + d) ≡ above_left_of (lent_field l.cols rows l.mv l.marks) (4 * l.column + d) l.y)
+    ((rows : ℕ) → l.y ≤ 4 * rows → (d : ℕ) → d < l.c → shown_at l.self (l.at + d) ≡ above_left_of (lent_field l.cells.grid.cols rows l.cells.mv.now l.cells.marks.now) (4 * l.column + d) l.y)
     × ((j : ℕ) → j < l.at → shown_at l.self j ≡ shown_at l.initial.self j)
