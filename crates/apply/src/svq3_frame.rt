@@ -11,9 +11,7 @@ use compensation::plane::Plane;
 use compensation::svq3_mc::{Taps, compensate_both, compensate_taps, taps_of};
 use picture::{Block, Reference, Size};
 use state::Macroblock;
-use vectors::svq3_mb::{
-    num_motion_vectors, partition_height, partition_offset_x, partition_offset_y, partition_width,
-};
+use vectors::svq3_mb::{Partition, num_motion_vectors};
 
 // A number of a plane: chroma has half as many samples each way.
 fn over(chroma: bool, v: usize) -> usize
@@ -34,15 +32,15 @@ fn block_of(mb: Macroblock, chroma: bool, i: usize) -> Block
     requires { i < num_motion_vectors mb.call.mode }
     ensures { result ≡ part_block (unit chroma) mb.grid.cols mb.call i }
 {
-    let mode = mb.call.mode;
+    let part = Partition::of_mode(mb.call.mode, i);
     let column = mb.call.column as usize;
     let row = mb.call.row as usize;
     Block {
         stride: over(chroma, 16) * mb.grid.cols,
-        x: over(chroma, 16 * column + partition_offset_x(mode, i)),
-        y: over(chroma, 16 * row + partition_offset_y(mode, i)),
-        w: over(chroma, partition_width(mode)),
-        h: over(chroma, partition_height(mode)),
+        x: over(chroma, 16 * column + 4 * part.x),
+        y: over(chroma, 16 * row + 4 * part.y),
+        w: over(chroma, 4 * part.wide),
+        h: over(chroma, 4 * part.high),
     }
 }
 

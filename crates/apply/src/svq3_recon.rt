@@ -11,7 +11,7 @@ ghost use Rattle.apply.specs.InnerSquares.{quadrant_added, square_added};
 use levels::svq3_cbp::{chroma_class, luma_quadrant_coded};
 use picture::Grid;
 use record::Head;
-use transform::Square;
+use transform::{Quantiser, Square};
 use transform::four::{add_chroma_blocks, add_chroma_dc_blocks, add_luma_quadrant};
 use transform::svq3_dequant::dequantize_chroma_dc_levels;
 
@@ -27,7 +27,8 @@ fn add_quadrant(pic: &mut [u8], levels: &[i32; 392], grid: Grid, head: Head, q: 
             x: 16 * (head.column as usize) + 8 * (q % 2),
             y: 16 * (head.row as usize) + 8 * (q / 2),
         };
-        add_luma_quadrant(pic, s, &levels[64 * q..], head.quantiser);
+        let number = head.quantiser;
+        add_luma_quadrant(pic, s, &levels[64 * q..], Quantiser { number });
     }
 }
 
@@ -42,10 +43,10 @@ pub fn add_luma(pic: &mut [u8], levels: &[i32; 392], grid: Grid, head: Head)
 }
 
 // The four blocks of a chroma plane, Cb 0 or Cr 1 (a number: places of levels are reckoned with it), in a square. Without AC levels each has its DC alone.
-fn add_square(pic: &mut [u8], s: Square, levels: &[i32; 392], plane: usize, q: u32, ac: bool)
-    requires inside { SquareIn s 8 (length pic.old) × (plane < 2) × (q ≤ 31) }
+fn add_square(pic: &mut [u8], s: Square, levels: &[i32; 392], plane: usize, q: Quantiser, ac: bool)
+    requires inside { SquareIn s 8 (length pic.old) × (plane < 2) }
     requires pos_value { ac ≡ false → (n : ℕ) → n < 64 → get_or levels.now (264 + 64 * plane + n) (pos 0) ≡ pos 0 }
-    ensures { pic.new ≡ square_added plane s.stride s.x s.y q levels.now pic.old }
+    ensures { pic.new ≡ square_added plane s.stride s.x s.y q.number levels.now pic.old }
 {
     let dc = dequantize_chroma_dc_levels(&levels[256 + 4 * plane..], q);
     if ac {
@@ -67,6 +68,7 @@ pub fn add_chroma(pic: &mut [u8], levels: &[i32; 392], grid: Grid, head: Head, p
             x: 8 * (head.column as usize),
             y: 8 * (head.row as usize),
         };
-        add_square(pic, s, levels, plane, head.quantiser, class == 2);
+        let number = head.quantiser;
+        add_square(pic, s, levels, plane, Quantiser { number }, class == 2);
     }
 }

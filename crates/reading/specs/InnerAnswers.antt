@@ -1,6 +1,6 @@
 -- What the functions that read a macroblock answer and leave.
 -- Assumes nothing.
-use Rattle.std.specs.Prelude.{◌≡◌, List, ℕ, ◌/◌, ◌≤◌, ℤ, Result}
+use Rattle.std.specs.Prelude.{◌≡◌, List, ℕ, ◌/◌, ℤ, Result}
 use Rattle.refusal.specs.Got.{Got, got, map_got}
 use Rattle.refusal.specs.Answered.{answered}
 use Rattle.refusal.specs.declared.Refusal.{Refusal}
@@ -8,7 +8,6 @@ use Rattle.vectors.specs.Modes.{partition_width, partition_height}
 use Rattle.picture.specs.InnerField.{lent_field}
 use Rattle.vectors.specs.InnerWindow.{Follows}
 use Rattle.vectors.specs.declared.window.Neighbours.{Neighbours}
-use Rattle.picture.specs.InnerPicture.{Within}
 use Rattle.record.specs.Record.{Record}
 use Rattle.record.specs.declared.Head.{Head}
 use Rattle.state.specs.State.{Context}
@@ -29,16 +28,11 @@ vectors_answer at read = answered at (map_got (λ m. m.clipped) read)
 abbrev pub read_answer : ℕ → Got Record → Result (Head × ℕ) Refusal
 read_answer at read = answered at (map_got (λ r. r.head) read)
 
--- ---- a call inside its grid
-pub record InGrid (motion : Motion) : Type 0 where
-  pub within : Within motion.grid.cols motion.grid.rows motion.call.column motion.call.row
-  pub mode : motion.call.mode ≤ 7
-
 -- what was read of the vectors, as the code holds it: how many components were clipped, the vectors, and a window that follows the field
 pub record Holds (m : Moving) (motion : Motion) (clipped : ℕ) (vectors : List ℤ) (near : Neighbours) : Type 0 where
   pub count : clipped ≡ m.clipped
   pub stored : vectors ≡ m.vectors
-  pub follows : Follows (partition_width motion.call.mode / 4) (partition_height motion.call.mode / 4) m.field motion.grid.cols motion.grid.rows motion.call.column motion.call.row near
+  pub follows : Follows (partition_width motion.mb.call.mode / 4) (partition_height motion.mb.call.mode / 4) m.field motion.mb.grid.cols motion.mb.grid.rows motion.mb.call.column motion.mb.call.row near
 
 -- the answer of a reader of one partition's vector, and what it leaves, which is said where it has a vector
 pub record Stepping (motion : Motion) (at : ℕ) (read : Got Moving) (answer : Result (ℕ × ℕ) Refusal) (vectors : List ℤ) (near : Neighbours) : Type 0 where

@@ -2,23 +2,23 @@
 ghost use Rattle.std.specs.Prelude.{◌≡◌, ◌+◌, ◌*◌, ◌≤◌, ◌<◌, ◌^◌, length, drop};
 ghost use Rattle.refusal.specs.Answered.{answered};
 ghost use Rattle.bits.specs.Bits.{bit_list};
-ghost use Rattle.picture.specs.InnerPicture.{Within};
 ghost use Rattle.picture.specs.Picture.{cell_count};
 ghost use Rattle.picture.specs.InnerField.{lent_field};
 ghost use Rattle.vectors.specs.Modes.{num_motion_vectors};
 ghost use Rattle.record.specs.Record.{no_vectors};
 ghost use Rattle.levels.specs.Items.{no_levels};
 ghost use Rattle.reading.specs.Read.{Moving, moved, read_vectors, read_quantiser, at_first, read_residual, read_coded};
-ghost use Rattle.reading.specs.InnerAnswers.{lent_context, InGrid, Holds, Stepping, Vectoring, Reading};
+ghost use Rattle.reading.specs.InnerAnswers.{lent_context, Holds, Stepping, Vectoring, Reading};
 
+use bits::Bits;
 use bits::pair::read_signed_pair;
 use bits::svq3_mv::read_signed_code;
 use levels::items::read_items;
 use levels::svq3_cbp::read_cbp_inter;
-use picture::Grid;
+use picture::Cells;
 use record::Head;
 use refusal::Refusal;
-use state::{Call, Flags};
+use state::{Cursor, Flags, Macroblock};
 use vectors::svq3_frame::{Units, Vector, move_component};
 use vectors::svq3_mb::{
     Partition, Svq3MvPrecision, num_motion_vectors, precision_number,
@@ -26,17 +26,16 @@ use vectors::svq3_mb::{
 };
 use vectors::window::Neighbours;
 
-// What the partitions of a macroblock have in common: its grid, its call and the precision of its vectors.
+// What the partitions of a macroblock have in common: the macroblock and the precision of its vectors.
 #[derive(Clone, Copy)]
 struct Motion {
-    grid: Grid,
-    call: Call,
+    mb: Macroblock,
     precision: Svq3MvPrecision,
 }
 
 // Partition i moved by its difference (dx, dy) and stored, so that the next one's prediction sees it. Answers how many components were clipped so far.
 fn move_partition(
-    vectors: &mut [i32],
+    vectors: &mut [i32; 32],
     near: &mut Neighbours,
     motion: Motion,
     i: usize,
@@ -44,13 +43,13 @@ fn move_partition(
     dx: Units,
     dy: Units,
 ) -> u32
-    requires in_grid { InGrid motion × (i < num_motion_vectors motion.call.mode) × (clipped ≤ 30) }
-    requires vectors_len { (length vectors.old ≡ 32) × ((m : Moving) × Holds m motion clipped vectors.old near.old) }
-    ensures { (m : Moving) → Holds m motion clipped vectors.old near.old → Holds (moved motion.call motion.precision i m dy.0 dx.0) motion result vectors.new near.new }
+    requires index { (i < num_motion_vectors motion.mb.call.mode) × (clipped ≤ 30) }
+    requires holds { (m : Moving) × Holds m motion clipped vectors.old near.old }
+    ensures { (m : Moving) → Holds m motion clipped vectors.old near.old → Holds (moved motion.mb.call motion.precision i m dy.0 dx.0) motion result vectors.new near.new }
 {
-    let call = motion.call;
+    let call = motion.mb.call;
     let part = Partition::of_mode(call.mode, i);
-    let from = near.predict_mv(motion.grid, call.column as usize, call.row as usize, part);
+    let from = near.predict_mv(motion.mb.grid, call.column as usize, call.row as usize, part);
     let mx = move_component(from.x, motion.precision, dx);
     let my = move_component(from.y, motion.precision, dy);
     let v = Vector {
@@ -65,18 +64,17 @@ fn move_partition(
 
 // Partition i: its difference read, the vertical one first, and the partition moved by it.
 fn read_partition(
-    vectors: &mut [i32],
+    vectors: &mut [i32; 32],
     near: &mut Neighbours,
-    bits: &[u8],
+    bits: Bits,
     at: usize,
     motion: Motion,
     i: usize,
     clipped: u32,
 ) -> Result<(u32, usize), Refusal>
-    requires in_grid { InGrid motion × (i < num_motion_vectors motion.call.mode) × (clipped ≤ 30) }
-    requires vectors_len { (length vectors.old ≡ 32) × ((m : Moving) × Holds m motion clipped vectors.old near.old) }
-    requires bits_len_bound { length bits.now < 2 ^ 61 }
-    ensures { (m : Moving) → Holds m motion clipped vectors.old near.old → Stepping motion at (read_vectors motion.call motion.precision 1 i m (drop at (bit_list bits.now))) result vectors.new near.new }
+    requires index { (i < num_motion_vectors motion.mb.call.mode) × (clipped ≤ 30) }
+    requires holds { (m : Moving) × Holds m motion clipped vectors.old near.old }
+    ensures { (m : Moving) → Holds m motion clipped vectors.old near.old → Stepping motion at (read_vectors motion.mb.call motion.precision 1 i m (drop at (bit_list bits.entry.bytes.now))) result vectors.new near.new }
 {
     let ((dy, dx), next) = read_signed_pair(bits, at)?;
     let so_far = move_partition(vectors, near, motion, i, clipped, Units(dx), Units(dy));
@@ -85,26 +83,19 @@ fn read_partition(
 
 // The vectors of all partitions, on a copy of the cells that they see: the lent vectors and marks stay as they are.
 fn read_vectors(
-    vectors: &mut [i32],
-    mv: &[i32],
-    marks: &[u8],
-    bits: &[u8],
+    vectors: &mut [i32; 32],
+    cells: Cells,
+    bits: Bits,
     at: usize,
     motion: Motion,
 ) -> Result<(u32, usize), Refusal>
-    requires in_grid { InGrid motion × (length bits.now < 2 ^ 61) }
-    requires mv_len { (length mv.now ≡ 2 * cell_count motion.grid.cols motion.grid.rows) × (length marks.now ≡ cell_count motion.grid.cols motion.grid.rows) × (vectors.old ≡ no_vectors) }
-    ensures { Vectoring at (read_vectors motion.call motion.precision (num_motion_vectors motion.call.mode) 0 (at_first (lent_field motion.grid.cols motion.grid.rows mv.now marks.now)) (drop at (bit_list bits.now))) result vectors.new }
+    requires cells_all { (cells.grid ≡ motion.mb.grid) × (length cells.marks.now ≡ cell_count cells.grid.cols cells.grid.rows) }
+    requires none { vectors.old ≡ no_vectors }
+    ensures { Vectoring at (read_vectors motion.mb.call motion.precision (num_motion_vectors motion.mb.call.mode) 0 (at_first (lent_field cells.entry.grid.cols cells.entry.grid.rows cells.entry.mv.now cells.entry.marks.now)) (drop at (bit_list bits.entry.bytes.now))) result vectors.new }
 {
-    let call = motion.call;
+    let call = motion.mb.call;
     let mut near = Neighbours::new();
-    near.load(
-        mv,
-        marks,
-        motion.grid,
-        call.column as usize,
-        call.row as usize,
-    );
+    near.load(cells, call.column as usize, call.row as usize);
     let n = num_motion_vectors(call.mode);
     let mut p = at;
     let mut clipped = 0;
@@ -116,14 +107,14 @@ fn read_vectors(
 
 // A delta is read only if the pattern is not 0 and delta-enable is on.
 fn read_quantiser(
-    bits: &[u8],
+    bits: Bits,
     at: usize,
     quantiser: u32,
     pattern: u8,
     delta: bool,
 ) -> Result<(u32, usize), Refusal>
-    requires { (length bits.now < 2 ^ 61) × (quantiser ≤ 31) }
-    ensures { result ≡ answered at (read_quantiser delta quantiser pattern (drop at (bit_list bits.now))) }
+    requires { quantiser ≤ 31 }
+    ensures { result ≡ answered at (read_quantiser delta quantiser pattern (drop at (bit_list bits.entry.bytes.now))) }
 {
     if (pattern != 0) & delta {
         let (d, next) = read_signed_code(bits, at)?;
@@ -140,21 +131,21 @@ fn read_quantiser(
 
 // Pattern, quantiser, levels.
 fn read_residual(
-    levels: &mut [i32],
-    bits: &[u8],
+    levels: &mut [i32; 392],
+    bits: Bits,
     at: usize,
     motion: Motion,
     clipped: u32,
     delta: bool,
     quantiser: u32,
 ) -> Result<(Head, usize), Refusal>
-    requires { (levels.old ≡ no_levels) × (length bits.now < 2 ^ 61) × (quantiser ≤ 31) }
-    ensures { (m : Moving) → clipped ≡ m.clipped → Reading at (read_residual delta quantiser motion.call motion.precision m (drop at (bit_list bits.now))) result m.vectors levels.new }
+    requires { (levels.old ≡ no_levels) × (quantiser ≤ 31) }
+    ensures { (m : Moving) → clipped ≡ m.clipped → Reading at (read_residual delta quantiser motion.mb.call motion.precision m (drop at (bit_list bits.entry.bytes.now))) result m.vectors levels.new }
 {
     let (pattern, p) = read_cbp_inter(bits, at)?;
     let (q, b) = read_quantiser(bits, p, quantiser, pattern, delta)?;
     let next = read_items(levels, bits, b, pattern)?;
-    let call = motion.call;
+    let call = motion.mb.call;
     let head = Head {
         column: call.column,
         row: call.row,
@@ -167,30 +158,33 @@ fn read_residual(
     Ok((head, next))
 }
 
-// A macroblock that is no skip, read from the bits: precision, vectors, and what follows. It answers the numbers of its record; its vectors and levels go into the two slices.
-// After a refusal the slices hold what was read before it.
+// A macroblock that is no skip, read from the bits: precision, vectors, and what follows. It answers the numbers of its record; its vectors and levels go into the two arrays.
+// After a refusal the arrays hold what was read before it.
 pub fn read_coded(
-    vectors: &mut [i32],
-    levels: &mut [i32],
-    mv: &[i32],
-    marks: &[u8],
-    bits: &[u8],
-    at: usize,
-    grid: Grid,
-    call: Call,
+    vectors: &mut [i32; 32],
+    levels: &mut [i32; 392],
+    cells: Cells,
+    bits: Bits,
+    mb: Macroblock,
     flags: Flags,
-    quantiser: u32,
+    cursor: Cursor,
 ) -> Result<(Head, usize), Refusal>
-    requires within { Within grid.cols grid.rows call.column call.row × (call.mode ≤ 7) × (quantiser ≤ 31) × (length bits.now < 2 ^ 61) }
-    requires mv_len { (length mv.now ≡ 2 * cell_count grid.cols grid.rows) × (length marks.now ≡ cell_count grid.cols grid.rows) × (vectors.old ≡ no_vectors) × (levels.old ≡ no_levels) }
-    ensures { Reading at (read_coded (lent_context grid.cols grid.rows mv.now marks.now flags quantiser) call (drop at (bit_list bits.now))) result vectors.new levels.new }
+    requires cells_all { (cells.grid ≡ mb.grid) × (length cells.marks.now ≡ cell_count cells.grid.cols cells.grid.rows) }
+    requires none { (vectors.old ≡ no_vectors) × (levels.old ≡ no_levels) }
+    requires quantiser { cursor.quantiser ≤ 31 }
+    ensures { Reading cursor.place (read_coded (lent_context cells.entry.grid.cols cells.entry.grid.rows cells.entry.mv.now cells.entry.marks.now flags cursor.quantiser) mb.call (drop cursor.place (bit_list bits.entry.bytes.now))) result vectors.new levels.new }
 {
-    let (precision, p) = read_inter_mv_precision_p_frame(bits, at, flags.thirdpel, flags.halfpel)?;
-    let motion = Motion {
-        grid,
-        call,
-        precision,
-    };
-    let (clipped, q) = read_vectors(vectors, mv, marks, bits, p, motion)?;
-    read_residual(levels, bits, q, motion, clipped, flags.delta, quantiser)
+    let (precision, p) =
+        read_inter_mv_precision_p_frame(bits, cursor.place, flags.thirdpel, flags.halfpel)?;
+    let motion = Motion { mb, precision };
+    let (clipped, q) = read_vectors(vectors, cells, bits, p, motion)?;
+    read_residual(
+        levels,
+        bits,
+        q,
+        motion,
+        clipped,
+        flags.delta,
+        cursor.quantiser,
+    )
 }

@@ -11,9 +11,12 @@ use Rattle.apply.specs.Blocks.{chroma_added}
 use Rattle.apply.proofs.Residuals.{four-chroma, no-ac}
 use Rattle.apply.proofs.svq3_recon.add_chroma.Goals as goal
 
+pub invariant_of-arg : goal.invariant_of-arg
+invariant_of-arg c = record { ranged = c.requires.pic_len.2 }
+
 pub add_square-requires : goal.add_square-requires
 add_square-requires c =
-    record { inside = (plane-inside 8 (lit< tt) c.requires.within.0 c.requires.pic_len.0, c.requires.within.1, c.requires.pic_len.2); pos_value = (λ e. no-ac c.args.head.pattern c.args.plane c.args.levels.now c.requires.pic_len.3 c.requires.within.1 (ap (λ (n : ℕ). eqb n 2) (sym c.chroma_class-class.ensures) ∙ e)) }
+    record { inside = (plane-inside 8 (lit< tt) c.requires.within.0 c.requires.pic_len.0, c.requires.within.1); pos_value = (λ e. no-ac c.args.head.pattern c.args.plane c.args.levels.now c.requires.pic_len.3 c.requires.within.1 (ap (λ (n : ℕ). eqb n 2) (sym c.chroma_class-class.ensures) ∙ e)) }
 
 pub returns-then-class-gt0 : goal.returns-then-class-gt0
 unfolding chroma_added when◌then◌else◌

@@ -17,9 +17,12 @@ use Rattle.apply.specs.InnerSquares.{quadrant_added}
 use Rattle.apply.proofs.Residuals.{quadrant-inside, all-levels}
 use Rattle.apply.proofs.svq3_recon.add_quadrant.Goals as goal
 
+pub invariant_of-arg : goal.invariant_of-arg
+invariant_of-arg c = record { ranged = c.requires.pic_len.2 }
+
 pub add_luma_quadrant-requires : goal.add_luma_quadrant-requires
 add_luma_quadrant-requires c =
-    record { inside = quadrant-inside c.args.q c.requires.within.1 (plane-inside 16 (lit< tt) c.requires.within.0 c.requires.pic_len.0); levels = (omega (arith, length-drop (64 * c.args.q) c.args.levels.now, c.requires.within.1), c.requires.pic_len.2) }
+    record { inside = quadrant-inside c.args.q c.requires.within.1 (plane-inside 16 (lit< tt) c.requires.within.0 c.requires.pic_len.0); levels = omega (arith, length-drop (64 * c.args.q) c.args.levels.now, c.requires.within.1) }
 
 pub returns-then-luma_quadrant_coded : goal.returns-then-luma_quadrant_coded
 unfolding quadrant_added when◌then◌else◌

@@ -9,17 +9,17 @@ use Rattle.reading.proofs.svq3_frame.read_coded.Goals.{Start}
 use Rattle.reading.proofs.svq3_frame.read_coded.Goals as goal
 
 abbrev context : Start → Context
-context s = let a = s.args in lent_context a.grid.cols a.grid.rows a.mv.now a.marks.now a.flags a.quantiser
+context s = let a = s.args in lent_context a.cells.grid.cols a.cells.grid.rows a.cells.mv.now a.cells.marks.now a.flags a.cursor.quantiser
 
 pub returns : goal.returns
 returns c =
     let a = c.args in
-    with-vectors (context (goal.at.returns c).Start) a.call (bit_list a.bits.now) a.at _ _ _ _ (sym c.in_ok-precision.was ∙ c.read_inter_mv_precision_p_frame.ensures) _ c.read_vectors.ensures _ _ _ c.in_ok-clipped.was c.read_residual.ensures
+    with-vectors (context (goal.at.returns c).Start) a.mb.call (bit_list a.bits.bytes.now) a.cursor.place _ _ _ _ (sym c.in_ok-precision.was ∙ c.read_inter_mv_precision_p_frame.ensures) _ c.read_vectors.ensures _ _ _ c.in_ok-clipped.was c.read_residual.ensures
 
 pub returns-in_err-clipped : goal.returns-in_err-clipped
 returns-in_err-clipped c =
     let a = c.args in
-    rw (handed _ _ c.from_residual-in_err-clipped.ensures) (no-vectors (context (goal.at.returns-in_err-clipped c).Start) a.call (bit_list a.bits.now) a.at _ _ _ _ (sym c.in_ok-precision.was ∙ c.read_inter_mv_precision_p_frame.ensures) _ c.read_vectors.ensures _ c.in_err-clipped.was)
+    rw (handed _ _ c.from_residual-in_err-clipped.ensures) (no-vectors (context (goal.at.returns-in_err-clipped c).Start) a.mb.call (bit_list a.bits.bytes.now) a.cursor.place _ _ _ _ (sym c.in_ok-precision.was ∙ c.read_inter_mv_precision_p_frame.ensures) _ c.read_vectors.ensures _ c.in_err-clipped.was)
 
 pub returns-in_err-precision : goal.returns-in_err-precision
-returns-in_err-precision c = let a = c.args in rw (handed _ _ c.from_residual.ensures) (no-precision (context (goal.at.returns-in_err-precision c).Start) a.call (bit_list a.bits.now) a.at _ _ _ (sym c.in_err-precision.was ∙ c.read_inter_mv_precision_p_frame.ensures))
+returns-in_err-precision c = let a = c.args in rw (handed _ _ c.from_residual.ensures) (no-precision (context (goal.at.returns-in_err-precision c).Start) a.mb.call (bit_list a.bits.bytes.now) a.cursor.place _ _ _ (sym c.in_err-precision.was ∙ c.read_inter_mv_precision_p_frame.ensures))

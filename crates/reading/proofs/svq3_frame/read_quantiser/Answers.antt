@@ -16,7 +16,7 @@ use Rattle.reading.proofs.svq3_frame.read_quantiser.Goals as goal
 
 exact : (c : In_ok-d) → let q = c.args.quantiser in let d = c.in_ok-d.d in read w64 (to_z w64 q +ℤ read w64 (read w32 d)) ≡ pos q +ℤ d
 exact c =
-    let h : c.args.quantiser < 32 = omega (arith, c.requires.1) in
+    let h : c.args.quantiser < 32 = omega (arith, c.requires) in
     let f : mag c.in_ok-d.d < 2 ^ 31 = search rules in
     search reads depth 20
 
@@ -25,7 +25,7 @@ overflow_cast-q-then-pattern-delta c = let f : mag c.in_ok-d.d < 2 ^ 31 = search
 
 pub overflow_add-q : goal.overflow_add-q
 overflow_add-q c =
-    let h : c.args.quantiser < 32 = omega (arith, c.requires.1) in
+    let h : c.args.quantiser < 32 = omega (arith, c.requires) in
     let f : mag c.in_ok-d.d < 2 ^ 31 = search rules in
     search signed depth 20
 

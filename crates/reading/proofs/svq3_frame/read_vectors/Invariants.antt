@@ -1,6 +1,4 @@
 -- `reading::svq3_frame::read_vectors`: what is still to be read, joined to what was read, is the whole.
-use mathlib.Core.Path.{◌≡◌}
-use lib.ListN.{length}
 use Rattle.bits.specs.Bits.{bit_list}
 use Rattle.picture.specs.InnerField.{lent_field}
 use Rattle.reading.specs.Read.{Moving, at_first}
@@ -10,4 +8,4 @@ use Rattle.reading.proofs.svq3_frame.read_vectors.Given as goal
 
 abbrev pub invariant-loop-i : goal.invariant-loop-i
 invariant-loop-i l =
-    (length l.vectors ≡ 32) × ((m : Moving) × Going l.motion l.n (at_first (lent_field l.motion.grid.cols l.motion.grid.rows l.mv l.marks)) (bit_list l.bits) l.at l.i l.p m × Holds m l.motion l.clipped l.vectors l.near)
+    (m : Moving) × Going l.motion l.n (at_first (lent_field l.cells.grid.cols l.cells.grid.rows l.cells.mv.now l.cells.marks.now)) (bit_list l.bits.bytes.now) l.at l.i l.p m × Holds m l.motion l.clipped l.vectors l.near
