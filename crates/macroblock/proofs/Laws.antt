@@ -13,6 +13,7 @@ use Rattle.refusal.specs.Got.{Got, got, refused}
 use Rattle.refusal.specs.declared.Refusal.{Refusal}
 use Rattle.bits.specs.Bits.{bit_list}
 use Rattle.picture.specs.InnerPicture.{Within}
+use Rattle.picture.specs.InnerLent.{Slices}
 use Rattle.state.specs.Questions.{ask_call}
 use Rattle.state.specs.declared.Call.{Call}
 use Rattle.state.specs.Questions.{Asked, yes}
@@ -35,9 +36,9 @@ use Rattle.state.specs.declared.Cursor.{Cursor}
 use Rattle.macroblock.specs.Decode.{MbAnswer}
 use Rattle.std.specs.Prelude.{Ok, Err}
 
--- the state with another quantiser, picture, vectors and marks
-abbrev pub changed : State → ℕ → List ℕ → List ℕ → List ℕ → List ℤ → List ℕ → State
-changed s quantiser y cb cr mv marks =
+-- the state with another quantiser and other slices
+abbrev pub changed : State → ℕ → Slices → State
+changed s quantiser pic =
     record {
       cols = s.cols;
       rows = s.rows;
@@ -48,11 +49,11 @@ changed s quantiser y cb cr mv marks =
       ry = s.ry;
       rcb = s.rcb;
       rcr = s.rcr;
-      y = y;
-      cb = cb;
-      cr = cr;
-      mv = mv;
-      marks = marks;
+      y = pic.y;
+      cb = pic.cb;
+      cr = pic.cr;
+      mv = pic.mv;
+      marks = pic.marks;
     }
 
 -- a mode that was tested
@@ -71,6 +72,18 @@ module _ (s : State) (call : Call) (bits : List ℕ) (place : ℕ) (transcript :
 
   abbrev pub found_coded : Got Record
   found_coded = read_coded (context_of s) call (drop place (bit_list bits))
+
+  -- what a record makes of the slices
+  abbrev pub slices_after : Record → Slices
+  slices_after r =
+      let f = applied_field r (field_of s) in
+      record {
+        y = applied_luma s.cols s.rows s.ry r s.y;
+        cb = applied_chroma 0 s.cols s.rows s.rcb r s.cb;
+        cr = applied_chroma 1 s.cols s.rows s.rcr r s.cr;
+        mv = f.mv;
+        marks = f.marks;
+      }
 
   pub asked_by : (answer : Asked) (free : ℕ) → answer ≡ ask_call s.cols s.rows (lengths_of s) call s.quantiser (length bits) place free → free ≡ length transcript - fill → answer ≡ asked s call bits place transcript fill
   asked_by answer free e f = e ∙ ap (λ (n : ℕ). ask_call s.cols s.rows (lengths_of s) call s.quantiser (length bits) place n) f
@@ -99,19 +112,15 @@ module _ (s : State) (call : Call) (bits : List ℕ) (place : ℕ) (transcript :
     on o e = rw (yes, e)
 
     -- ---- a skip: nothing is read
-    pub skipped : call.mode ≡ 0 → (filled : ℕ) (y cb cr : List ℕ) (mv : List ℤ) (marks bytes : List ℕ)
+    pub skipped : call.mode ≡ 0 → (filled : ℕ) (pic : Slices) (bytes : List ℕ)
         → Written transcript fill (record_bytes (skip_record call.column call.row)) filled bytes
-        → y ≡ applied_luma s.cols s.rows s.ry (skip_record call.column call.row) s.y
-        → cb ≡ applied_chroma 0 s.cols s.rows s.rcb (skip_record call.column call.row) s.cb
-        → cr ≡ applied_chroma 1 s.cols s.rows s.rcr (skip_record call.column call.row) s.cr
-        → mv ≡ (applied_field (skip_record call.column call.row) (field_of s)).mv
-        → marks ≡ (applied_field (skip_record call.column call.row) (field_of s)).marks
-        → mb_left (Ok (record { place = place; quantiser = s.quantiser; fill = filled; clipped = 0 })) (changed s s.quantiser y cb cr mv marks) bytes ≡ decoded s call bits place transcript fill
+        → pic ≡ slices_after (skip_record call.column call.row)
+        → mb_left (Ok (record { place = place; quantiser = s.quantiser; fill = filled; clipped = 0 })) (changed s s.quantiser pic) bytes ≡ decoded s call bits place transcript fill
     unfolding outcome_of applied quantiser_after skip_record read_macroblock when◌then◌else◌
-    skipped m filled y cb cr mv marks bytes w ey ecb ecr em ek =
-        let e : found ≡ got (skip_record call.column call.row) 0 = rw (eq-eqb call.mode 0 m) in
+    skipped m filled pic bytes w e =
+        let f : found ≡ got (skip_record call.column call.row) 0 = rw (eq-eqb call.mode 0 m) in
         let p : place ≡ place + 0 = omega arith in
-        (λ i. mb_left (Ok (record { place = p i; quantiser = s.quantiser; fill = w.moved i; clipped = 0 })) (changed s s.quantiser (ey i) (ecb i) (ecr i) (em i) (ek i)) (w.leaves i)) ∙ on (got (skip_record call.column call.row) 0) e
+        (λ i. mb_left (Ok (record { place = p i; quantiser = s.quantiser; fill = w.moved i; clipped = 0 })) (changed s s.quantiser (e i)) (w.leaves i)) ∙ on (got (skip_record call.column call.row) 0) f
 
     -- ---- no skip
     module _ (some : 0 < call.mode) where
@@ -141,18 +150,14 @@ module _ (s : State) (call : Call) (bits : List ℕ) (place : ℕ) (transcript :
         no-skip = read-no-skip (context_of s) call within some facts.rest.mode facts.rest.quantiser-most (drop place (bit_list bits)) place h next vs ls said
 
         -- it is written to the transcript and applied
-        pub accepted : (filled : ℕ) (y cb cr : List ℕ) (mv : List ℤ) (marks bytes : List ℕ)
+        pub accepted : (filled : ℕ) (pic : Slices) (bytes : List ℕ)
             → Written transcript fill (record_bytes (record_of h vs ls)) filled bytes
-            → y ≡ applied_luma s.cols s.rows s.ry (record_of h vs ls) s.y
-            → cb ≡ applied_chroma 0 s.cols s.rows s.rcb (record_of h vs ls) s.cb
-            → cr ≡ applied_chroma 1 s.cols s.rows s.rcr (record_of h vs ls) s.cr
-            → mv ≡ (applied_field (record_of h vs ls) (field_of s)).mv
-            → marks ≡ (applied_field (record_of h vs ls) (field_of s)).marks
-            → mb_left (Ok (record { place = next; quantiser = h.quantiser; fill = filled; clipped = h.clipped })) (changed s h.quantiser y cb cr mv marks) bytes ≡ decoded s call bits place transcript fill
+            → pic ≡ slices_after (record_of h vs ls)
+            → mb_left (Ok (record { place = next; quantiser = h.quantiser; fill = filled; clipped = h.clipped })) (changed s h.quantiser pic) bytes ≡ decoded s call bits place transcript fill
         unfolding outcome_of applied
-        accepted filled y cb cr mv marks bytes w ey ecb ecr em ek =
+        accepted filled pic bytes w e =
             let q = sym (coded-quantiser s (record_of h vs ls) no-skip) in
-            (λ i. mb_left (Ok (record { place = by.moved i; quantiser = q i; fill = w.moved i; clipped = h.clipped })) (changed s (q i) (ey i) (ecb i) (ecr i) (em i) (ek i)) (w.leaves i))
+            (λ i. mb_left (Ok (record { place = by.moved i; quantiser = q i; fill = w.moved i; clipped = h.clipped })) (changed s (q i) (e i)) (w.leaves i))
             ∙ on-coded (got (record_of h vs ls) by.taken) by.is
 
 -- ---- the caller's record moved on by an answer has the answer's quantiser

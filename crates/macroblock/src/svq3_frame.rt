@@ -2,47 +2,43 @@
 ghost use Rattle.std.specs.Prelude.{◌≡◌, ◌<◌};
 ghost use Rattle.state.specs.Questions.{yes};
 ghost use Rattle.macroblock.specs.Decode.{asked, decoded};
-ghost use Rattle.picture.specs.InnerLent.{here, before, after};
+ghost use Rattle.picture.specs.InnerLent.{held, holding};
 ghost use Rattle.macroblock.specs.Entry.{state_before, state_after, quantiser_by, mb_left};
 ghost use Rattle.macroblock.specs.InnerSource.{state_of_source};
 
 use crate::{MbReport, Source};
 use apply::applied::{apply_coded, apply_skip};
-use picture::{Picture, Reference};
+use bits::Bits;
+use picture::{Cells, Picture, Reference};
 use reading::svq3_frame::read_coded;
 use refusal::Refusal;
-use state::{Call, Cursor, Frame, Lengths, ask_call};
+use state::{Call, Cursor, Frame, Lengths, Macroblock, ask_call};
 use transcript::write::{put_coded, put_skip};
 
 // A macroblock that is no skip: read, then written and applied.
 fn decode_coded(
-    pic: Picture,
+    pic: &mut Picture,
     transcript: &mut [u8],
     source: Source,
     call: Call,
     cursor: Cursor,
     fill: usize,
 ) -> Result<MbReport, Refusal>
-    requires fill_value { asked (state_of_source source cursor.quantiser (here pic)) call source.bits.now cursor.place transcript.old fill ≡ yes }
+    requires fill_value { asked (state_of_source source cursor.quantiser (held pic.old)) call source.bits.now cursor.place transcript.old fill ≡ yes }
     requires mode_nonzero { 0 < call.mode }
-    ensures { mb_left result (state_of_source source.entry (quantiser_by cursor.quantiser result) (after pic)) transcript.new
-        ≡ decoded (state_of_source source.entry cursor.quantiser (before pic)) call source.entry.bits.now cursor.place transcript.old fill }
+    ensures left { mb_left result (state_of_source source.entry (quantiser_by cursor.quantiser result) (held pic.new)) transcript.new
+        ≡ decoded (state_of_source source.entry cursor.quantiser (held pic.old)) call source.entry.bits.now cursor.place transcript.old fill }
+    ensures same_slices { pic.new ≡ holding pic.old (held pic.new) }
 {
     let mut vectors = [0i32; 32];
     let mut levels = [0i32; 392];
-    let grid = source.frame.grid;
-    let (head, next) = read_coded(
-        &mut vectors,
-        &mut levels,
-        pic.mv,
-        pic.marks,
-        source.bits,
-        cursor.place,
-        grid,
-        call,
-        source.frame.flags,
-        cursor.quantiser,
-    )?;
+    let Frame { grid, flags } = source.frame;
+    let mv = &mut *pic.mv;
+    let marks = &mut *pic.marks;
+    let cells = Cells { grid, mv, marks };
+    let bits = Bits { bytes: source.bits };
+    let mb = Macroblock { grid, call };
+    let (head, next) = read_coded(&mut vectors, &mut levels, cells, bits, mb, flags, cursor)?;
     let filled = put_coded(transcript, &vectors, &levels, fill, head);
     apply_coded(pic, source.reference, &vectors, &levels, grid, head);
     Ok(MbReport {
@@ -55,17 +51,18 @@ fn decode_coded(
 
 // A skip reads nothing: its blocks are copied, and its record is its place and its mode.
 fn decode_skip(
-    pic: Picture,
+    pic: &mut Picture,
     transcript: &mut [u8],
     source: Source,
     call: Call,
     cursor: Cursor,
     fill: usize,
 ) -> Result<MbReport, Refusal>
-    requires fill_value { asked (state_of_source source cursor.quantiser (here pic)) call source.bits.now cursor.place transcript.old fill ≡ yes }
+    requires fill_value { asked (state_of_source source cursor.quantiser (held pic.old)) call source.bits.now cursor.place transcript.old fill ≡ yes }
     requires mode_value { call.mode ≡ 0 }
-    ensures { mb_left result (state_of_source source.entry (quantiser_by cursor.quantiser result) (after pic)) transcript.new
-        ≡ decoded (state_of_source source.entry cursor.quantiser (before pic)) call source.entry.bits.now cursor.place transcript.old fill }
+    ensures left { mb_left result (state_of_source source.entry (quantiser_by cursor.quantiser result) (held pic.new)) transcript.new
+        ≡ decoded (state_of_source source.entry cursor.quantiser (held pic.old)) call source.entry.bits.now cursor.place transcript.old fill }
+    ensures same_slices { pic.new ≡ holding pic.old (held pic.new) }
 {
     let fill = put_skip(transcript, fill, call.column, call.row);
     let column = call.column as usize;
@@ -81,16 +78,17 @@ fn decode_skip(
 
 // A call whose questions were all answered with yes.
 fn decode_asked(
-    pic: Picture,
+    pic: &mut Picture,
     transcript: &mut [u8],
     source: Source,
     call: Call,
     cursor: Cursor,
     fill: usize,
 ) -> Result<MbReport, Refusal>
-    requires { asked (state_of_source source cursor.quantiser (here pic)) call source.bits.now cursor.place transcript.old fill ≡ yes }
-    ensures { mb_left result (state_of_source source.entry (quantiser_by cursor.quantiser result) (after pic)) transcript.new
-        ≡ decoded (state_of_source source.entry cursor.quantiser (before pic)) call source.entry.bits.now cursor.place transcript.old fill }
+    requires { asked (state_of_source source cursor.quantiser (held pic.old)) call source.bits.now cursor.place transcript.old fill ≡ yes }
+    ensures left { mb_left result (state_of_source source.entry (quantiser_by cursor.quantiser result) (held pic.new)) transcript.new
+        ≡ decoded (state_of_source source.entry cursor.quantiser (held pic.old)) call source.entry.bits.now cursor.place transcript.old fill }
+    ensures same_slices { pic.new ≡ holding pic.old (held pic.new) }
 {
     if call.mode == 0 {
         decode_skip(pic, transcript, source, call, cursor, fill)
@@ -147,7 +145,7 @@ pub fn decode_inter_mb(
         reference,
         bits,
     };
-    let pic = Picture {
+    let mut pic = Picture {
         y,
         cb,
         cr,
@@ -155,5 +153,5 @@ pub fn decode_inter_mb(
         marks,
     };
     let cursor = Cursor { place, quantiser };
-    decode_asked(pic, transcript, source, made, cursor, fill)
+    decode_asked(&mut pic, transcript, source, made, cursor, fill)
 }

@@ -11,8 +11,8 @@ use Rattle.apply.specs.Blocks.{chroma_added}
 use Rattle.apply.proofs.Residuals.{four-chroma, no-ac}
 use Rattle.apply.proofs.svq3_recon.add_chroma.Goals as goal
 
-pub invariant_of-arg : goal.invariant_of-arg
-invariant_of-arg c = record { ranged = c.requires.pic_len.2 }
+pub invariant_of-add_square : goal.invariant_of-add_square
+invariant_of-add_square c = record { ranged = c.requires.pic_len.2 }
 
 pub add_square-requires : goal.add_square-requires
 add_square-requires c =

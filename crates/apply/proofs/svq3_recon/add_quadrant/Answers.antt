@@ -17,8 +17,8 @@ use Rattle.apply.specs.InnerSquares.{quadrant_added}
 use Rattle.apply.proofs.Residuals.{quadrant-inside, all-levels}
 use Rattle.apply.proofs.svq3_recon.add_quadrant.Goals as goal
 
-pub invariant_of-arg : goal.invariant_of-arg
-invariant_of-arg c = record { ranged = c.requires.pic_len.2 }
+pub invariant_of-add_luma_quadrant : goal.invariant_of-add_luma_quadrant
+invariant_of-add_luma_quadrant c = record { ranged = c.requires.pic_len.2 }
 
 pub add_luma_quadrant-requires : goal.add_luma_quadrant-requires
 add_luma_quadrant-requires c =

@@ -11,7 +11,7 @@ use Rattle.record.specs.InnerRecord.{record_of}
 use Rattle.record.specs.Range.{RecordRange, HeadRange}
 use Rattle.record.specs.declared.Head.{Head}
 use Rattle.state.specs.State.{State}
-use Rattle.picture.specs.InnerLent.{here}
+use Rattle.picture.specs.InnerLent.{held}
 use Rattle.macroblock.specs.InnerSource.{state_of_source}
 use Rattle.refusal.proofs.Answered.{handed}
 use Rattle.macroblock.proofs.Laws as laws
@@ -20,7 +20,7 @@ use Rattle.macroblock.proofs.svq3_frame.decode_coded.Goals as goal
 
 -- ---- the state at entry
 abbrev S : Start → State
-S c = state_of_source c.args.source c.args.cursor.quantiser (here c.args.pic)
+S c = state_of_source c.args.source c.args.cursor.quantiser (held c.args.pic.now)
 
 facts_at : (s : Start) → laws.Facts (S s) s.args.call s.args.source.bits.now s.args.cursor.place s.args.transcript.now s.args.fill s.requires.fill_value
 facts_at s = laws.facts (S s) s.args.call s.args.source.bits.now s.args.cursor.place s.args.transcript.now s.args.fill s.requires.fill_value
@@ -30,7 +30,7 @@ within-at s = laws.within (S s) s.args.call s.args.source.bits.now s.args.cursor
 
 -- ---- a record was read
 abbrev T : In_ok-head → State
-T c = state_of_source c.args.source c.args.cursor.quantiser (here c.args.pic)
+T c = state_of_source c.args.source c.args.cursor.quantiser (held c.args.pic.now)
 
 abbrev H : In_ok-head → Head
 H k = k.in_ok-head.head
@@ -51,11 +51,22 @@ no-skip-at : (k : In_ok-head) → 0 < (H k).mode
 no-skip-at k = let s = k in laws.no-skip (T s) s.args.call s.args.source.bits.now s.args.cursor.place s.args.transcript.now s.args.fill s.requires.fill_value s.requires.mode_nonzero _ (H k) _ (Vs k) (Ls k) k.read_coded.ensures k.in_ok-head.was
 
 -- ---- the needs
+pub invariant_of-cells : goal.invariant_of-cells
+invariant_of-cells c =
+    let f = facts_at (goal.at.invariant_of-cells c).Start in
+    record { wide = f.in-grid.most-cols; paired = f.sized.mv ∙ ap (λ (n : ℕ). 2 * n) (sym f.sized.marks) }
+
+pub invariant_of-bits : goal.invariant_of-bits
+invariant_of-bits c = let f = facts_at (goal.at.invariant_of-bits c).Start in record { counted = f.rest.size_fits }
+
+pub invariant_of-mb : goal.invariant_of-mb
+invariant_of-mb c = let f = facts_at (goal.at.invariant_of-mb c).Start in record { within = within-at (goal.at.invariant_of-mb c).Start; mode = f.rest.mode }
+
 pub read_coded-requires : goal.read_coded-requires
 unfolding no_vectors no_levels
 read_coded-requires c =
     let f = facts_at (goal.at.read_coded-requires c).Start in
-    record { within = (within-at (goal.at.read_coded-requires c).Start, f.rest.mode, f.rest.quantiser-most, f.rest.size_fits); mv_len = (f.sized.mv, f.sized.marks, refl, refl) }
+    record { cells_all = (refl, f.sized.marks); none = (refl, refl); quantiser = f.rest.quantiser-most }
 
 pub put_coded-filled-requires : goal.put_coded-filled-requires
 put_coded-filled-requires c =
@@ -66,35 +77,22 @@ pub apply_coded-requires : goal.apply_coded-requires
 apply_coded-requires c =
     let s = (goal.at.apply_coded-requires c).In_ok-head in
     let f = facts_at (goal.at.apply_coded-requires c).Start in
-    record { cols_bound = (f.in-grid.most-cols, f.in-grid.most-rows, range_at (goal.at.apply_coded-requires c).In_ok-head, no-skip-at (goal.at.apply_coded-requires c).In_ok-head, c.read_coded.auto.vectors, c.read_coded.auto.levels); all_sized = f.sized }
+    record { cols_bound = (f.in-grid.most-cols, f.in-grid.most-rows, range_at (goal.at.apply_coded-requires c).In_ok-head, no-skip-at (goal.at.apply_coded-requires c).In_ok-head); all_sized = f.sized }
 
-pub returns : goal.returns
-returns c =
-    let s = (goal.at.returns c).In_ok-head in
+pub returns-clause-same_slices : goal.returns-clause-same_slices
+returns-clause-same_slices c = let a = c.apply_coded in a.ensures ∙ ap (λ (p : Picture). holding c.args.pic.now (held p)) (sym a.ensures)
+
+pub returns-clause-left : goal.returns-clause-left
+returns-clause-left c =
+    let s = (goal.at.returns-clause-left c).In_ok-head in
     let w = c.put_coded-filled in
     let a = c.apply_coded in
-    laws.accepted (T s) s.args.call s.args.source.bits.now s.args.cursor.place s.args.transcript.now s.args.fill s.requires.fill_value s.requires.mode_nonzero _ (H (goal.at.returns c).In_ok-head) _ (Vs (goal.at.returns c).In_ok-head) (Ls (goal.at.returns c).In_ok-head) c.read_coded.ensures c.in_ok-head.was
-    w.result _ _ _ _ _ w.new.out
-    w.ensures a.ensures.y_after a.ensures.cb_after a.ensures.cr_after a.ensures.mv_after a.ensures.marks_after
+    laws.accepted (T s) s.args.call s.args.source.bits.now s.args.cursor.place s.args.transcript.now s.args.fill s.requires.fill_value s.requires.mode_nonzero _ (H (goal.at.returns-clause-left c).In_ok-head) _ (Vs (goal.at.returns-clause-left c).In_ok-head) (Ls (goal.at.returns-clause-left c).In_ok-head) c.read_coded.ensures c.in_ok-head.was
+    w.result _ w.new.out w.ensures (ap held a.ensures)
 
-pub returns-in_err-head : goal.returns-in_err-head
-returns-in_err-head c =
-    rw (handed _ _ c.from_residual.ensures) (laws.not-read (S (goal.at.returns-in_err-head c).Start) c.args.call c.args.source.bits.now c.args.cursor.place c.args.transcript.now c.args.fill c.requires.fill_value c.requires.mode_nonzero _ _ _ _ c.read_coded.ensures c.in_err-head.was)
+pub returns-in_err-head-clause-same_slices : goal.returns-in_err-head-clause-same_slices
+returns-in_err-head-clause-same_slices c = refl
 
-pub slice_bounds-read_coded-end : goal.slice_bounds-read_coded-end
-slice_bounds-read_coded-end c = refl
-
-pub slice_bounds-read_coded-end-2 : goal.slice_bounds-read_coded-end-2
-slice_bounds-read_coded-end-2 c = refl
-
-pub slice_bounds-put_coded-end : goal.slice_bounds-put_coded-end
-slice_bounds-put_coded-end c = sym c.read_coded.auto.vectors
-
-pub slice_bounds-put_coded-end-2 : goal.slice_bounds-put_coded-end-2
-slice_bounds-put_coded-end-2 c = sym c.read_coded.auto.levels
-
-pub slice_bounds-apply_coded-end : goal.slice_bounds-apply_coded-end
-slice_bounds-apply_coded-end c = sym c.read_coded.auto.vectors
-
-pub slice_bounds-apply_coded-end-2 : goal.slice_bounds-apply_coded-end-2
-slice_bounds-apply_coded-end-2 c = sym c.read_coded.auto.levels
+pub returns-in_err-head-clause-left : goal.returns-in_err-head-clause-left
+returns-in_err-head-clause-left c =
+    rw (handed _ _ c.from_residual.ensures) (laws.not-read (S (goal.at.returns-in_err-head-clause-left c).Start) c.args.call c.args.source.bits.now c.args.cursor.place c.args.transcript.now c.args.fill c.requires.fill_value c.requires.mode_nonzero _ _ _ _ c.read_coded.ensures c.in_err-head.was)

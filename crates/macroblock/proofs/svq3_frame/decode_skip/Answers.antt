@@ -2,14 +2,14 @@
 use native.Mathlib.Omega.{arith}
 use Rattle.picture.specs.InnerPicture.{Within}
 use Rattle.state.specs.State.{State}
-use Rattle.picture.specs.InnerLent.{here}
+use Rattle.picture.specs.InnerLent.{held}
 use Rattle.macroblock.specs.InnerSource.{state_of_source}
 use Rattle.macroblock.proofs.Laws as laws
 use Rattle.macroblock.proofs.svq3_frame.decode_skip.Goals.{Start}
 use Rattle.macroblock.proofs.svq3_frame.decode_skip.Goals as goal
 
 abbrev S : Start → State
-S c = state_of_source c.args.source c.args.cursor.quantiser (here c.args.pic)
+S c = state_of_source c.args.source c.args.cursor.quantiser (held c.args.pic.now)
 
 facts_at : (s : Start) → laws.Facts (S s) s.args.call s.args.source.bits.now s.args.cursor.place s.args.transcript.now s.args.fill s.requires.fill_value
 facts_at s = laws.facts (S s) s.args.call s.args.source.bits.now s.args.cursor.place s.args.transcript.now s.args.fill s.requires.fill_value
@@ -23,5 +23,8 @@ put_skip-fill-requires c = let g = within-at (goal.at.put_skip-fill-requires c).
 pub apply_skip-requires : goal.apply_skip-requires
 apply_skip-requires c = let f = facts_at (goal.at.apply_skip-requires c).Start in record { within = within-at (goal.at.apply_skip-requires c).Start; all_sized = f.sized }
 
-pub returns : goal.returns
-returns c = let a = c.apply_skip in let w = c.put_skip-fill in laws.skipped (S (goal.at.returns c).Start) c.args.call c.args.source.bits.now c.args.cursor.place c.args.transcript.now c.args.fill c.requires.fill_value c.requires.mode_value w.result _ _ _ _ _ w.new.out w.ensures a.ensures.y_after a.ensures.cb_after a.ensures.cr_after a.ensures.mv_after a.ensures.marks_after
+pub returns-clause-same_slices : goal.returns-clause-same_slices
+returns-clause-same_slices c = let a = c.apply_skip in a.ensures ∙ ap (λ (p : Picture). holding c.args.pic.now (held p)) (sym a.ensures)
+
+pub returns-clause-left : goal.returns-clause-left
+returns-clause-left c = let a = c.apply_skip in let w = c.put_skip-fill in laws.skipped (S (goal.at.returns-clause-left c).Start) c.args.call c.args.source.bits.now c.args.cursor.place c.args.transcript.now c.args.fill c.requires.fill_value c.requires.mode_value w.result _ w.new.out w.ensures (ap held a.ensures)
