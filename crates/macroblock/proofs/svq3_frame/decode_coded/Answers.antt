@@ -1,7 +1,7 @@
 -- `decode_coded`: what yes to the questions tells is what reading asks, and what is read is what writing and applying ask.
-use mathlib.Core.Path.{refl, sym}
+use mathlib.Core.Path.{refl, sym, ap, ◌∙◌}
 use mathlib.Core.List.{List}
-use Prim.Native.Nat.{◌<◌}
+use Prim.Native.Nat.{ℕ, ◌*◌, ◌<◌}
 use native.Mathlib.Omega.{arith}
 use lib.IntN.{ℤ}
 use Rattle.picture.specs.InnerPicture.{Within}
@@ -11,7 +11,8 @@ use Rattle.record.specs.InnerRecord.{record_of}
 use Rattle.record.specs.Range.{RecordRange, HeadRange}
 use Rattle.record.specs.declared.Head.{Head}
 use Rattle.state.specs.State.{State}
-use Rattle.picture.specs.InnerLent.{held}
+use Rattle.picture.specs.InnerLent.{held, holding}
+use Rattle.picture.specs.declared.Picture.{Picture}
 use Rattle.macroblock.specs.InnerSource.{state_of_source}
 use Rattle.refusal.proofs.Answered.{handed}
 use Rattle.macroblock.proofs.Laws as laws
@@ -71,7 +72,7 @@ read_coded-requires c =
 pub put_coded-filled-requires : goal.put_coded-filled-requires
 put_coded-filled-requires c =
     let s = (goal.at.put_coded-filled-requires c).In_ok-head in
-    (head_at (goal.at.put_coded-filled-requires c).In_ok-head, no-skip-at (goal.at.put_coded-filled-requires c).In_ok-head, c.read_coded.auto.vectors, c.read_coded.auto.levels, omega (arith, laws.room (T s) s.args.call s.args.source.bits.now s.args.cursor.place s.args.transcript.now s.args.fill s.requires.fill_value))
+    (head_at (goal.at.put_coded-filled-requires c).In_ok-head, no-skip-at (goal.at.put_coded-filled-requires c).In_ok-head, omega arith, omega arith, omega (arith, laws.room (T s) s.args.call s.args.source.bits.now s.args.cursor.place s.args.transcript.now s.args.fill s.requires.fill_value))
 
 pub apply_coded-requires : goal.apply_coded-requires
 apply_coded-requires c =

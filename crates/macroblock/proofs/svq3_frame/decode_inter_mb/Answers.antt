@@ -1,8 +1,12 @@
 -- `decode_inter_mb`: a call that is refused by a question changes nothing; the others are decoded.
-use mathlib.Core.Path.{sym, ◌∙◌}
+use mathlib.Core.Path.{sym, ap, ◌∙◌}
+use borrow.Author.Rules.{rules}
+use Rattle.picture.specs.InnerLent.{Slices}
+use Rattle.picture.specs.declared.Picture.{Picture}
 use Rattle.state.specs.State.{State}
-use Rattle.macroblock.specs.Entry.{state_of}
+use Rattle.macroblock.specs.Entry.{state_of, mb_left, quantiser_by}
 use Rattle.refusal.proofs.Answered.{handed}
+use Rattle.picture.proofs.Lent.{slices-are}
 use Rattle.macroblock.proofs.Laws as laws
 use Rattle.macroblock.proofs.svq3_frame.decode_inter_mb.Goals.{Start}
 use Rattle.macroblock.proofs.svq3_frame.decode_inter_mb.Goals as goal
@@ -15,7 +19,18 @@ decode_asked-requires c =
     sym (laws.asked_by (S (goal.at.decode_asked-requires c).Start) c.args.call c.args.bits.now c.args.place c.args.transcript.now c.args.fill _ _ c.ask_call.ensures c.saturating_sub-free.ensures) ∙ c.in_ok-ask_call.was
 
 pub returns : goal.returns
-returns c = c.decode_asked.ensures
+returns c =
+    let a = c.args in
+    let d = c.decode_asked in
+    let same = d.ensures.same_slices in
+    let y = ap (λ (p : Picture). p.y.ghost_name) same in
+    let cb = ap (λ (p : Picture). p.cb.ghost_name) same in
+    let cr = ap (λ (p : Picture). p.cr.ghost_name) same in
+    let mv = ap (λ (p : Picture). p.mv.ghost_name) same in
+    let marks = ap (λ (p : Picture). p.marks.ghost_name) same in
+    ap (λ (p : Slices). mb_left d.result (state_of a.frame (quantiser_by a.quantiser d.result) a.ry.now a.rcb.now a.rcr.now p.y p.cb p.cr p.mv p.marks) d.new.transcript)
+    (slices-are (search rules) (search rules) (search rules) (search rules) (search rules))
+    ∙ d.ensures.left
 
 pub returns-in_err-ask_call : goal.returns-in_err-ask_call
 returns-in_err-ask_call c =

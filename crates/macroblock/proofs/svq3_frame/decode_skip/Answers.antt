@@ -1,8 +1,10 @@
 -- `decode_skip`: what yes to the questions tells is what writing and applying ask.
+use mathlib.Core.Path.{sym, ap, ◌∙◌}
 use native.Mathlib.Omega.{arith}
 use Rattle.picture.specs.InnerPicture.{Within}
 use Rattle.state.specs.State.{State}
-use Rattle.picture.specs.InnerLent.{held}
+use Rattle.picture.specs.InnerLent.{held, holding}
+use Rattle.picture.specs.declared.Picture.{Picture}
 use Rattle.macroblock.specs.InnerSource.{state_of_source}
 use Rattle.macroblock.proofs.Laws as laws
 use Rattle.macroblock.proofs.svq3_frame.decode_skip.Goals.{Start}
