@@ -3,7 +3,7 @@
 pub mod calls;
 pub mod run;
 
-ghost use Rattle.std.specs.Prelude.{◌≡◌};
+ghost use Rattle.std.specs.Prelude.{◌≡◌, Ok};
 ghost use Rattle.state.specs.Questions.{ask_run};
 ghost use Rattle.run.specs.Left.{report_of};
 
@@ -22,23 +22,19 @@ pub struct Report {
     pub stop: Result<(), Refusal>,
 }
 
-pub fn report_of(
-    accepted: usize,
-    consumed: usize,
-    place: usize,
-    quantiser: u32,
-    fill: usize,
-    stop: Result<(), Refusal>,
-) -> Report
-    ensures { result ≡ report_of accepted consumed place quantiser fill stop }
-{
-    Report {
-        accepted,
-        consumed,
-        place,
-        quantiser,
-        fill,
-        stop,
+impl Report {
+    // That of a run from a place and a quantiser on, before its first call.
+    pub fn new(place: usize, quantiser: u32) -> Self
+        ensures { result ≡ report_of 0 0 place quantiser 0 (Ok tt) }
+    {
+        Report {
+            accepted: 0,
+            consumed: 0,
+            place,
+            quantiser,
+            fill: 0,
+            stop: Ok(()),
+        }
     }
 }
 
@@ -46,12 +42,7 @@ pub fn report_of(
 pub fn run_nothing(frame: Frame, l: Lengths, quantiser: u32, size: usize, place: usize) -> Report
     ensures { result ≡ report_of 0 0 place quantiser 0 (ask_run frame.grid.cols frame.grid.rows l quantiser size place) }
 {
-    report_of(
-        0,
-        0,
-        place,
-        quantiser,
-        0,
-        ask_run(frame.grid, l, quantiser, size, place),
-    )
+    let mut report = Report::new(place, quantiser);
+    report.stop = ask_run(frame.grid, l, quantiser, size, place);
+    report
 }

@@ -1,7 +1,12 @@
 -- `run::run::run` meets its contract: the list's check, then the run.
 use mathlib.Core.Path.{sym, ap, ◌∙◌}
+use borrow.Author.Rules.{rules}
+use Rattle.std.specs.Prelude.{Err}
+use Rattle.picture.specs.InnerLent.{Slices}
+use Rattle.picture.specs.declared.Picture.{Picture}
+use Rattle.picture.proofs.Lent.{slices-are}
 use Rattle.state.specs.State.{State}
-use Rattle.macroblock.specs.Entry.{state_now}
+use Rattle.macroblock.specs.Entry.{state_of, state_now}
 use Rattle.run.specs.Left.{Left, run_left}
 use Rattle.run.specs.declared.Report.{Report}
 use Rattle.run.proofs.Whole.{listed, refused-list, no_call, some-calls}
@@ -25,12 +30,22 @@ run_calls-requires c = listed c.args.list.now (sym c.in-Ok.is ∙ c.check_calls.
 
 pub returns-else-n-eq0 : goal.returns-else-n-eq0
 returns-else-n-eq0 c =
-    c.run_calls.ensures
+    let a = c.args in
+    let d = c.run_calls in
+    let same = d.ensures.same_slices in
+    let y = ap (λ (p : Picture). p.y.ghost_name) same in
+    let cb = ap (λ (p : Picture). p.cb.ghost_name) same in
+    let cr = ap (λ (p : Picture). p.cr.ghost_name) same in
+    let mv = ap (λ (p : Picture). p.mv.ghost_name) same in
+    let marks = ap (λ (p : Picture). p.marks.ghost_name) same in
+    ap (λ (p : Slices). run_left d.result (state_of a.frame d.result.quantiser a.ry.now a.rcb.now a.rcr.now p.y p.cb p.cr p.mv p.marks) d.new.transcript)
+    (slices-are (search rules) (search rules) (search rules) (search rules) (search rules))
+    ∙ d.ensures.left
     ∙ some-calls (S (goal.at.returns-else-n-eq0 c).Start) c.args.list.now c.args.bits.now c.args.place c.args.transcript.now (sym c.in-Ok.is ∙ c.check_calls.ensures) c.if-n-eq0.false
 
 pub returns-in-Err : goal.returns-in-Err
 returns-in-Err c =
-    ap (nothing (goal.at.returns-in-Err c).Start) c.report_of.ensures
+    ap (λ (r : Report). nothing (goal.at.returns-in-Err c).Start (record { accepted = r.accepted; consumed = r.consumed; place = r.place; quantiser = r.quantiser; fill = r.fill; stop = Err c.in-Err.why })) c.new-report.ensures
     ∙ refused-list (S (goal.at.returns-in-Err c).Start) c.args.list.now c.args.bits.now c.args.place c.args.transcript.now (sym c.in-Err.is ∙ c.check_calls.ensures)
 
 pub check_calls-requires : goal.check_calls-requires
