@@ -77,7 +77,8 @@ pub fn apply_coded(
 )
     requires cols_bound { (grid.cols ≤ 4096) × (grid.rows ≤ 4096) × RecordRange grid.cols grid.rows (record_of head vectors.now levels.now) × (0 < head.mode) }
     requires all_sized { AllSized grid.cols grid.rows (lent_lengths (held pic.old) reference) }
-    ensures { pic.new ≡ holding pic.old (applied_slices grid.cols grid.rows reference.entry (record_of head vectors.now levels.now) (held pic.old)) }
+    ensures applied { pic.new ≡ holding pic.old (applied_slices grid.cols grid.rows reference.entry (record_of head vectors.now levels.now) (held pic.old)) }
+    ensures sized { AllSized grid.cols grid.rows (lent_lengths (held pic.new) reference.entry) }
 {
     apply_luma(pic.y, reference.y, vectors, levels, grid, head);
     apply_chroma(pic.cb, pic.cr, reference, vectors, levels, grid, head);
@@ -93,7 +94,8 @@ pub fn apply_coded(
 pub fn apply_skip(pic: &mut Picture, reference: Reference, grid: Grid, column: usize, row: usize)
     requires within { Within grid.cols grid.rows column row }
     requires all_sized { AllSized grid.cols grid.rows (lent_lengths (held pic.old) reference) }
-    ensures { pic.new ≡ holding pic.old (applied_slices grid.cols grid.rows reference.entry (skip_record column row) (held pic.old)) }
+    ensures applied { pic.new ≡ holding pic.old (applied_slices grid.cols grid.rows reference.entry (skip_record column row) (held pic.old)) }
+    ensures sized { AllSized grid.cols grid.rows (lent_lengths (held pic.new) reference.entry) }
 {
     copy_macroblock_from(pic.y, pic.cb, pic.cr, reference, grid, column, row);
     mark_macroblock(pic.mv, pic.marks, grid, column, row);

@@ -56,6 +56,18 @@ changed s quantiser pic =
       marks = pic.marks;
     }
 
+-- what a record makes of the slices
+abbrev pub slices_by : State → Record → Slices
+slices_by s r =
+    let f = applied_field r (field_of s) in
+    record {
+      y = applied_luma s.cols s.rows s.ry r s.y;
+      cb = applied_chroma 0 s.cols s.rows s.rcb r s.cb;
+      cr = applied_chroma 1 s.cols s.rows s.rcr r s.cr;
+      mv = f.mv;
+      marks = f.marks;
+    }
+
 -- a mode that was tested
 pub some-mode : (mode : ℕ) → (mode ≡ 0 → ⊥) → 0 < mode
 some-mode mode h = omega arith
@@ -72,18 +84,6 @@ module _ (s : State) (call : Call) (bits : List ℕ) (place : ℕ) (transcript :
 
   abbrev pub found_coded : Got Record
   found_coded = read_coded (context_of s) call (drop place (bit_list bits))
-
-  -- what a record makes of the slices
-  abbrev pub slices_after : Record → Slices
-  slices_after r =
-      let f = applied_field r (field_of s) in
-      record {
-        y = applied_luma s.cols s.rows s.ry r s.y;
-        cb = applied_chroma 0 s.cols s.rows s.rcb r s.cb;
-        cr = applied_chroma 1 s.cols s.rows s.rcr r s.cr;
-        mv = f.mv;
-        marks = f.marks;
-      }
 
   pub asked_by : (answer : Asked) (free : ℕ) → answer ≡ ask_call s.cols s.rows (lengths_of s) call s.quantiser (length bits) place free → free ≡ length transcript - fill → answer ≡ asked s call bits place transcript fill
   asked_by answer free e f = e ∙ ap (λ (n : ℕ). ask_call s.cols s.rows (lengths_of s) call s.quantiser (length bits) place n) f
@@ -114,7 +114,7 @@ module _ (s : State) (call : Call) (bits : List ℕ) (place : ℕ) (transcript :
     -- ---- a skip: nothing is read
     pub skipped : call.mode ≡ 0 → (filled : ℕ) (pic : Slices) (bytes : List ℕ)
         → Written transcript fill (record_bytes (skip_record call.column call.row)) filled bytes
-        → pic ≡ slices_after (skip_record call.column call.row)
+        → pic ≡ slices_by s (skip_record call.column call.row)
         → mb_left (Ok (record { place = place; quantiser = s.quantiser; fill = filled; clipped = 0 })) (changed s s.quantiser pic) bytes ≡ decoded s call bits place transcript fill
     unfolding outcome_of applied quantiser_after skip_record read_macroblock when◌then◌else◌
     skipped m filled pic bytes w e =
@@ -152,7 +152,7 @@ module _ (s : State) (call : Call) (bits : List ℕ) (place : ℕ) (transcript :
         -- it is written to the transcript and applied
         pub accepted : (filled : ℕ) (pic : Slices) (bytes : List ℕ)
             → Written transcript fill (record_bytes (record_of h vs ls)) filled bytes
-            → pic ≡ slices_after (record_of h vs ls)
+            → pic ≡ slices_by s (record_of h vs ls)
             → mb_left (Ok (record { place = next; quantiser = h.quantiser; fill = filled; clipped = h.clipped })) (changed s h.quantiser pic) bytes ≡ decoded s call bits place transcript fill
         unfolding outcome_of applied
         accepted filled pic bytes w e =

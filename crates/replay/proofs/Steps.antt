@@ -23,10 +23,10 @@ use Rattle.std.specs.Prelude.{Result, Ok, Err}
 use Rattle.transcript.specs.declared.parse.RecordStart.TheVariants.{Skip, Coded}
 use Rattle.transcript.proofs.Answers.{ParsedBy, parsed, parse-refused}
 use Rattle.transcript.proofs.Places.{not-read, skip_read, coded-read, coded-parsed}
-use Rattle.apply.specs.Apply.{applied_luma, applied_chroma, applied_field}
-use Rattle.state.specs.State.{State, field_of}
+use Rattle.picture.specs.InnerLent.{Slices}
+use Rattle.state.specs.State.{State}
 use Rattle.macroblock.specs.Decode.{applied, quantiser_after}
-use Rattle.macroblock.proofs.Laws.{changed, coded-quantiser}
+use Rattle.macroblock.proofs.Laws.{changed, slices_by, coded-quantiser}
 use Rattle.replay.specs.InnerStepped.{Stepped}
 
 module _ (s : State) (bytes : List ℕ) (at : ℕ) where
@@ -74,25 +74,12 @@ module _ (s : State) (bytes : List ℕ) (at : ℕ) where
       pub coded-step : (t : State) → t ≡ applied s (record_of o vs ls) → Stepped bytes at end s t
       coded-step = done (record_of o vs ls) by.taken end by.is by.moved
 
--- the work of a record that is no skip, list by list
-pub applied-is : (s : State) (r : Record) {y cb cr : List ℕ} {mv : List ℤ} {marks : List ℕ}
-    → 0 < r.head.mode
-    → y ≡ applied_luma s.cols s.rows s.ry r s.y
-    → cb ≡ applied_chroma 0 s.cols s.rows s.rcb r s.cb
-    → cr ≡ applied_chroma 1 s.cols s.rows s.rcr r s.cr
-    → mv ≡ (applied_field r (field_of s)).mv
-    → marks ≡ (applied_field r (field_of s)).marks
-    → changed s r.head.quantiser y cb cr mv marks ≡ applied s r
+-- the work of a record that is no skip, on the slices
+pub applied-is : (s : State) (r : Record) {pic : Slices} → 0 < r.head.mode → pic ≡ slices_by s r → changed s r.head.quantiser pic ≡ applied s r
 unfolding applied
-applied-is s r h ey ecb ecr em ek = let q = sym (coded-quantiser s r h) in λ i. changed s (q i) (ey i) (ecb i) (ecr i) (em i) (ek i)
+applied-is s r h e = let q = sym (coded-quantiser s r h) in λ i. changed s (q i) (e i)
 
 -- the same of a skip
-pub skip-applied : (s : State) (column row : ℕ) {y cb cr : List ℕ} {mv : List ℤ} {marks : List ℕ}
-    → y ≡ applied_luma s.cols s.rows s.ry (skip_record column row) s.y
-    → cb ≡ applied_chroma 0 s.cols s.rows s.rcb (skip_record column row) s.cb
-    → cr ≡ applied_chroma 1 s.cols s.rows s.rcr (skip_record column row) s.cr
-    → mv ≡ (applied_field (skip_record column row) (field_of s)).mv
-    → marks ≡ (applied_field (skip_record column row) (field_of s)).marks
-    → changed s s.quantiser y cb cr mv marks ≡ applied s (skip_record column row)
+pub skip-applied : (s : State) (column row : ℕ) {pic : Slices} → pic ≡ slices_by s (skip_record column row) → changed s s.quantiser pic ≡ applied s (skip_record column row)
 unfolding applied quantiser_after skip_record when◌then◌else◌
-skip-applied s column row ey ecb ecr em ek = λ i. changed s s.quantiser (ey i) (ecb i) (ecr i) (em i) (ek i)
+skip-applied s column row e = λ i. changed s s.quantiser (e i)

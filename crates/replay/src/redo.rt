@@ -3,10 +3,12 @@ ghost use Rattle.std.specs.Prelude.{◌≡◌, ◌≤◌, drop, Ok};
 ghost use Rattle.state.specs.InnerSizes.{AllSized, lent_lengths};
 ghost use Rattle.transcript.specs.InnerParsing.{place_answer};
 ghost use Rattle.transcript.specs.InnerPlace.{parse_place};
-ghost use Rattle.macroblock.specs.Entry.{state_before, state_after};
+ghost use Rattle.picture.specs.InnerLent.{held, holding};
+ghost use Rattle.macroblock.specs.InnerSource.{state_by};
 ghost use Rattle.replay.specs.InnerStepped.{Stepped};
 
 use apply::applied::{apply_coded, apply_skip};
+use picture::{Picture, Reference};
 use record::Head;
 use state::Frame;
 use transcript::parse::{RecordStart, parse_motion, parse_place};
@@ -18,82 +20,59 @@ pub struct Step {
     pub next: usize,
 }
 
-// The work of the record at `at`, which is no skip and whose place and mode end at `next`.
+// The work of the record at `at`, which is no skip: its place and mode end at `before.next`, and `before.quantiser` is the one before it.
 fn replay_coded(
-    y: &mut [u8],
-    cb: &mut [u8],
-    cr: &mut [u8],
-    mv: &mut [i32],
-    marks: &mut [u8],
-    ry: &[u8],
-    rcb: &[u8],
-    rcr: &[u8],
+    pic: &mut Picture,
+    reference: Reference,
     bytes: &[u8],
     frame: Frame,
-    quantiser: u32,
     at: usize,
     head: Head,
-    next: usize,
+    before: Step,
 ) -> Step
-    requires cols_bound { (frame.grid.cols ≤ 4096) × (frame.grid.rows ≤ 4096) × (Ok (RecordStart.Coded head, next) ≡ place_answer at (parse_place frame.grid.cols frame.grid.rows (drop at bytes.now))) }
-    requires all_sized { AllSized frame.grid.cols frame.grid.rows (lent_lengths y cb cr mv marks ry rcb rcr) }
-    ensures { Stepped bytes.now at result.next (state_before frame quantiser ry rcb rcr y cb cr mv marks)
-        (state_after frame result.quantiser ry rcb rcr y cb cr mv marks) }
+    requires cols_bound { (frame.grid.cols ≤ 4096) × (frame.grid.rows ≤ 4096) × (Ok (RecordStart.Coded head, before.next) ≡ place_answer at (parse_place frame.grid.cols frame.grid.rows (drop at bytes.now))) }
+    requires all_sized { AllSized frame.grid.cols frame.grid.rows (lent_lengths (held pic.old) reference) }
+    ensures stepped { Stepped bytes.now at result.next (state_by frame before.quantiser reference.entry (held pic.old))
+        (state_by frame result.quantiser reference.entry (held pic.new)) }
+    ensures same_slices { pic.new ≡ holding pic.old (held pic.new) }
+    ensures sized { AllSized frame.grid.cols frame.grid.rows (lent_lengths (held pic.new) reference.entry) }
 {
     let mut vectors = [0i32; 32];
     let mut levels = [0i32; 392];
-    let Ok((coded, end)) = parse_motion(&mut vectors, &mut levels, bytes, next, head) else {
-        return Step { quantiser, next };
+    let Ok((coded, next)) = parse_motion(&mut vectors, &mut levels, bytes, before.next, head)
+    else {
+        return before;
     };
-    apply_coded(
-        y, cb, cr, mv, marks, ry, rcb, rcr, &vectors, &levels, frame.grid, coded,
-    );
-    Step {
-        quantiser: coded.quantiser,
-        next: end,
-    }
+    apply_coded(pic, reference, &vectors, &levels, frame.grid, coded);
+    let quantiser = coded.quantiser;
+    Step { quantiser, next }
 }
 
 // The work of the record at `at`. A skip needs no vectors and no levels.
 pub fn replay_record(
-    y: &mut [u8],
-    cb: &mut [u8],
-    cr: &mut [u8],
-    mv: &mut [i32],
-    marks: &mut [u8],
-    ry: &[u8],
-    rcb: &[u8],
-    rcr: &[u8],
+    pic: &mut Picture,
+    reference: Reference,
     bytes: &[u8],
     frame: Frame,
     quantiser: u32,
     at: usize,
 ) -> Step
     requires cols_bound { (frame.grid.cols ≤ 4096) × (frame.grid.rows ≤ 4096) }
-    requires all_sized { AllSized frame.grid.cols frame.grid.rows (lent_lengths y cb cr mv marks ry rcb rcr) }
-    ensures { Stepped bytes.now at result.next (state_before frame quantiser ry rcb rcr y cb cr mv marks)
-        (state_after frame result.quantiser ry rcb rcr y cb cr mv marks) }
+    requires all_sized { AllSized frame.grid.cols frame.grid.rows (lent_lengths (held pic.old) reference) }
+    ensures stepped { Stepped bytes.now at result.next (state_by frame quantiser reference.entry (held pic.old))
+        (state_by frame result.quantiser reference.entry (held pic.new)) }
+    ensures same_slices { pic.new ≡ holding pic.old (held pic.new) }
+    ensures sized { AllSized frame.grid.cols frame.grid.rows (lent_lengths (held pic.new) reference.entry) }
 {
     match parse_place(bytes, at, frame.grid) {
         Ok((RecordStart::Skip(column, row), next)) => {
-            apply_skip(
-                y,
-                cb,
-                cr,
-                mv,
-                marks,
-                ry,
-                rcb,
-                rcr,
-                frame.grid,
-                column as usize,
-                row as usize,
-            );
+            apply_skip(pic, reference, frame.grid, column as usize, row as usize);
             Step { quantiser, next }
         }
-        Ok((RecordStart::Coded(head), next)) => replay_coded(
-            y, cb, cr, mv, marks, ry, rcb, rcr, bytes, frame, quantiser, at, head, next,
-        ),
+        Ok((RecordStart::Coded(head), next)) => {
+            let before = Step { quantiser, next };
+            replay_coded(pic, reference, bytes, frame, at, head, before)
+        }
         Err(_) => Step {
             quantiser,
             next: at,

@@ -29,4 +29,13 @@ returns c =
     let cell = c.store_partitions.ensures in
     let mv = cell.mv_after ∙ sym (ap (λ (f : Field). f.mv) field) in
     let marks = cell.marks_after ∙ sym (ap (λ (f : Field). f.marks) field) in
-    λ i. holding p (record { y = c.apply_luma.ensures i; cb = c.apply_chroma.ensures.cb_after i; cr = c.apply_chroma.ensures.cr_after i; mv = mv i; marks = marks i })
+    let z = c.requires.all_sized in
+    record {
+      applied = λ i. holding p (record { y = c.apply_luma.ensures i; cb = c.apply_chroma.ensures.cb_after i; cr = c.apply_chroma.ensures.cr_after i; mv = mv i; marks = marks i });
+      sized = record {
+        picture = record { luma_right = c.apply_luma.auto.pic ∙ z.picture.luma_right; cb_right = c.apply_chroma.auto.cb ∙ z.picture.cb_right; cr_right = c.apply_chroma.auto.cr ∙ z.picture.cr_right };
+        mv = c.store_partitions.auto.mv ∙ z.mv;
+        marks = c.store_partitions.auto.marks ∙ z.marks;
+        reference = z.reference;
+      };
+    }

@@ -24,4 +24,13 @@ returns c =
     let cr = plane.cr_after ∙ sym (skipped-chroma 1 a.grid.cols a.grid.rows a.reference.cr.now a.column a.row p.cr.now) in
     let mv = cell.mv_after ∙ sym (skipped-mv a.grid.cols a.grid.rows a.column a.row p.mv.now p.marks.now) in
     let marks = cell.marks_after ∙ sym (skipped-marks a.grid.cols a.grid.rows a.column a.row p.mv.now p.marks.now) in
-    λ i. holding p (record { y = y i; cb = cb i; cr = cr i; mv = mv i; marks = marks i })
+    let z = c.requires.all_sized in
+    record {
+      applied = λ i. holding p (record { y = y i; cb = cb i; cr = cr i; mv = mv i; marks = marks i });
+      sized = record {
+        picture = record { luma_right = c.copy_macroblock_from.auto.y ∙ z.picture.luma_right; cb_right = c.copy_macroblock_from.auto.cb ∙ z.picture.cb_right; cr_right = c.copy_macroblock_from.auto.cr ∙ z.picture.cr_right };
+        mv = c.mark_macroblock.auto.mv ∙ z.mv;
+        marks = c.mark_macroblock.auto.marks ∙ z.marks;
+        reference = z.reference;
+      };
+    }

@@ -11,8 +11,8 @@ use Rattle.record.specs.InnerRecord.{record_of}
 use Rattle.record.specs.Range.{RecordRange, HeadRange}
 use Rattle.record.specs.declared.Head.{Head}
 use Rattle.state.specs.State.{State}
-use Rattle.picture.specs.InnerLent.{held, holding}
-use Rattle.picture.specs.declared.Picture.{Picture}
+use Rattle.picture.specs.InnerLent.{held}
+use Rattle.picture.proofs.Lent.{stays}
 use Rattle.macroblock.specs.InnerSource.{state_of_source}
 use Rattle.refusal.proofs.Answered.{handed}
 use Rattle.macroblock.proofs.Laws as laws
@@ -81,7 +81,7 @@ apply_coded-requires c =
     record { cols_bound = (f.in-grid.most-cols, f.in-grid.most-rows, range_at (goal.at.apply_coded-requires c).In_ok-head, no-skip-at (goal.at.apply_coded-requires c).In_ok-head); all_sized = f.sized }
 
 pub returns-clause-same_slices : goal.returns-clause-same_slices
-returns-clause-same_slices c = let a = c.apply_coded in a.ensures ∙ ap (λ (p : Picture). holding c.args.pic.now (held p)) (sym a.ensures)
+returns-clause-same_slices c = stays c.args.pic.now c.apply_coded.ensures.applied
 
 pub returns-clause-left : goal.returns-clause-left
 returns-clause-left c =
@@ -89,7 +89,7 @@ returns-clause-left c =
     let w = c.put_coded-filled in
     let a = c.apply_coded in
     laws.accepted (T s) s.args.call s.args.source.bits.now s.args.cursor.place s.args.transcript.now s.args.fill s.requires.fill_value s.requires.mode_nonzero _ (H (goal.at.returns-clause-left c).In_ok-head) _ (Vs (goal.at.returns-clause-left c).In_ok-head) (Ls (goal.at.returns-clause-left c).In_ok-head) c.read_coded.ensures c.in_ok-head.was
-    w.result _ w.new.out w.ensures (ap held a.ensures)
+    w.result _ w.new.out w.ensures (ap held a.ensures.applied)
 
 pub returns-in_err-head-clause-same_slices : goal.returns-in_err-head-clause-same_slices
 returns-in_err-head-clause-same_slices c = refl

@@ -3,8 +3,8 @@ use mathlib.Core.Path.{sym, ap, ◌∙◌}
 use native.Mathlib.Omega.{arith}
 use Rattle.picture.specs.InnerPicture.{Within}
 use Rattle.state.specs.State.{State}
-use Rattle.picture.specs.InnerLent.{held, holding}
-use Rattle.picture.specs.declared.Picture.{Picture}
+use Rattle.picture.specs.InnerLent.{held}
+use Rattle.picture.proofs.Lent.{stays}
 use Rattle.macroblock.specs.InnerSource.{state_of_source}
 use Rattle.macroblock.proofs.Laws as laws
 use Rattle.macroblock.proofs.svq3_frame.decode_skip.Goals.{Start}
@@ -26,7 +26,7 @@ pub apply_skip-requires : goal.apply_skip-requires
 apply_skip-requires c = let f = facts_at (goal.at.apply_skip-requires c).Start in record { within = within-at (goal.at.apply_skip-requires c).Start; all_sized = f.sized }
 
 pub returns-clause-same_slices : goal.returns-clause-same_slices
-returns-clause-same_slices c = let a = c.apply_skip in a.ensures ∙ ap (λ (p : Picture). holding c.args.pic.now (held p)) (sym a.ensures)
+returns-clause-same_slices c = stays c.args.pic.now c.apply_skip.ensures.applied
 
 pub returns-clause-left : goal.returns-clause-left
-returns-clause-left c = let a = c.apply_skip in let w = c.put_skip-fill in laws.skipped (S (goal.at.returns-clause-left c).Start) c.args.call c.args.source.bits.now c.args.cursor.place c.args.transcript.now c.args.fill c.requires.fill_value c.requires.mode_value w.result _ w.new.out w.ensures (ap held a.ensures)
+returns-clause-left c = let a = c.apply_skip in let w = c.put_skip-fill in laws.skipped (S (goal.at.returns-clause-left c).Start) c.args.call c.args.source.bits.now c.args.cursor.place c.args.transcript.now c.args.fill c.requires.fill_value c.requires.mode_value w.result _ w.new.out w.ensures (ap held a.ensures.applied)

@@ -1,5 +1,11 @@
 -- `replay::replay::replay` meets its contract: the questions, the check of all records, then the work.
-use mathlib.Core.Path.{refl, sym, ◌∙◌}
+use mathlib.Core.Path.{refl, sym, ap, ◌∙◌}
+use borrow.Author.Rules.{rules}
+use Rattle.std.specs.Prelude.{Ok}
+use Rattle.picture.specs.InnerLent.{Slices}
+use Rattle.picture.specs.declared.Picture.{Picture}
+use Rattle.picture.proofs.Lent.{slices-are}
+use Rattle.replay.specs.Replay.{replay_left}
 use Rattle.refusal.proofs.Answered.{handed}
 use Rattle.state.specs.State.{State}
 use Rattle.macroblock.specs.Entry.{state_of, state_now}
@@ -23,9 +29,17 @@ replay_records-quantiser-requires c =
 pub returns : goal.returns
 returns c =
     let a = c.args in
-    let k = c.replay_records-quantiser in
-    all-applied (S (goal.at.returns c).Start) a.bytes.now (sym c.in_ok-ask_replay.was ∙ c.ask_replay.ensures) (sym c.in_ok-records.was ∙ c.check_records.ensures)
-    (λ q. state_of a.frame q a.ry.now a.rcb.now a.rcr.now k.new.y k.new.cb k.new.cr k.new.mv k.new.marks) k.result refl k.ensures
+    let d = c.replay_records-quantiser in
+    let same = d.ensures.same_slices in
+    let y = ap (λ (p : Picture). p.y.ghost_name) same in
+    let cb = ap (λ (p : Picture). p.cb.ghost_name) same in
+    let cr = ap (λ (p : Picture). p.cr.ghost_name) same in
+    let mv = ap (λ (p : Picture). p.mv.ghost_name) same in
+    let marks = ap (λ (p : Picture). p.marks.ghost_name) same in
+    ap (λ (p : Slices). replay_left (Ok (record { records = c.in_ok-records.records; quantiser = d.result })) (state_of a.frame d.result a.ry.now a.rcb.now a.rcr.now p.y p.cb p.cr p.mv p.marks))
+    (slices-are (search rules) (search rules) (search rules) (search rules) (search rules))
+    ∙ all-applied (S (goal.at.returns c).Start) a.bytes.now (sym c.in_ok-ask_replay.was ∙ c.ask_replay.ensures) (sym c.in_ok-records.was ∙ c.check_records.ensures)
+    (λ q. state_of a.frame q a.ry.now a.rcb.now a.rcr.now d.new.pic.y.now d.new.pic.cb.now d.new.pic.cr.now d.new.pic.mv.now d.new.pic.marks.now) d.result refl d.ensures.left
 
 pub returns-in_err-records : goal.returns-in_err-records
 returns-in_err-records c =

@@ -2,15 +2,17 @@
 use mathlib.Core.Path.{◌≡◌}
 use Prim.Native.Nat.{◌-◌}
 use lib.ListN.{length}
-use Rattle.macroblock.specs.Entry.{state_of}
+use Rattle.picture.specs.InnerLent.{held, holding}
+use Rattle.state.specs.InnerSizes.{AllSized, lent_lengths}
+use Rattle.macroblock.specs.InnerSource.{state_by}
 use Rattle.replay.specs.InnerRecorded.{all_left}
 use Rattle.replay.proofs.Records.{Replaying}
 use Rattle.replay.proofs.replay.replay_records.Given as goal
 
 abbrev pub invariant-loop-at : goal.invariant-loop-at
 invariant-loop-at l =
-    (length l.y ≡ length l.initial.y) × (length l.cb ≡ length l.initial.cb) × (length l.cr ≡ length l.initial.cr) × (length l.mv ≡ length l.initial.mv) × (length l.marks ≡ length l.initial.marks)
-    × Replaying (all_left (state_of l.frame l.quantiser l.ry l.rcb l.rcr l.initial.y l.initial.cb l.initial.cr l.initial.mv l.initial.marks) l.bytes) (state_of l.frame l.q l.ry l.rcb l.rcr l.y l.cb l.cr l.mv l.marks) l.bytes l.at
+    (l.pic ≡ holding l.initial.pic (held l.pic)) × AllSized l.frame.grid.cols l.frame.grid.rows (lent_lengths (held l.pic) l.reference)
+    × Replaying (all_left (state_by l.frame l.quantiser l.reference (held l.initial.pic)) l.bytes) (state_by l.frame l.q l.reference (held l.pic)) l.bytes l.at
 
 abbrev pub decreases-loop-at : goal.decreases-loop-at
 decreases-loop-at l = length l.bytes - l.at
