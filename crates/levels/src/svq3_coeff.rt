@@ -62,35 +62,6 @@ fn half_of(code: u32) -> u32
     code / 2 + code % 2
 }
 
-// Not one function with the next one: behind the escape a level is reckoned otherwise, not from other numbers.
-fn normal_level_run(code: u32) -> (i32, u32)
-    ensures { result ≡ (level ResidualBook.NormalScan code, run ResidualBook.NormalScan code) }
-{
-    let half = half_of(code);
-    if code < NORMAL_SCAN_ESCAPE {
-        let magnitude = digit(NORMAL_SCAN_MAGNITUDES, half);
-        let run = digit(NORMAL_SCAN_RUNS, half);
-        return (level_of(code, magnitude), run);
-    }
-    let run = half % 16;
-    let magnitude = (code - NORMAL_SCAN_ESCAPE) / 32 + NORMAL_SCAN_ESCAPE_LEVEL_BASE[run as usize];
-    (level_of(code, magnitude), run)
-}
-
-fn chroma_dc_level_run(code: u32) -> (i32, u32)
-    ensures { result ≡ (level ResidualBook.ChromaDc code, run ResidualBook.ChromaDc code) }
-{
-    let half = half_of(code);
-    if code < CHROMA_DC_ESCAPE {
-        let magnitude = digit(CHROMA_DC_MAGNITUDES, half);
-        let run = digit(CHROMA_DC_RUNS, half);
-        return (level_of(code, magnitude), run);
-    }
-    let run = half % 4;
-    let magnitude = (code - CHROMA_DC_ESCAPE_CODE_BASE[run as usize]) / 8 + 3;
-    (level_of(code, magnitude), run)
-}
-
 // What a code says: a level and the number of positions that it leaves out before it; none is the end of a list.
 pub fn resolve_level_run(book: ResidualBook, code: u32) -> Option<(i32, u32)>
     ensures { result ≡ resolve book code }
@@ -98,10 +69,25 @@ pub fn resolve_level_run(book: ResidualBook, code: u32) -> Option<(i32, u32)>
     if code == 0 {
         return None;
     }
-    match book {
-        ResidualBook::NormalScan => Some(normal_level_run(code)),
-        ResidualBook::ChromaDc => Some(chroma_dc_level_run(code)),
+    let half = half_of(code);
+    let (magnitudes, runs, escape) = match book {
+        ResidualBook::NormalScan => (
+            NORMAL_SCAN_MAGNITUDES,
+            NORMAL_SCAN_RUNS,
+            NORMAL_SCAN_ESCAPE,
+        ),
+        ResidualBook::ChromaDc => (CHROMA_DC_MAGNITUDES, CHROMA_DC_RUNS, CHROMA_DC_ESCAPE),
+    };
+    if code < escape {
+        let magnitude = digit(magnitudes, half);
+        return Some((level_of(code, magnitude), digit(runs, half)));
     }
+    let run = half % positions_of(book);
+    let magnitude = match book {
+        ResidualBook::NormalScan => (code - escape) / 32 + NORMAL_SCAN_ESCAPE_LEVEL_BASE[run as usize],
+        ResidualBook::ChromaDc => (code - CHROMA_DC_ESCAPE_CODE_BASE[run as usize]) / 8 + 3,
+    };
+    Some((level_of(code, magnitude), run))
 }
 
 // The next code of a list, read from the bytes.
