@@ -43,9 +43,6 @@ loop-taken-init c =
     let a = c.args in
     (begins a.book a.base a.out.now _ c.clear_list.ensures a.start a.at (bit_list a.bits.bytes.now) c.requires.1 c.requires.0, c.positions_of-count.ensures, c.window_at-window.ensures)
 
-pub next_level-requires : goal.next_level-requires
-next_level-requires c = c.loop-taken.invariant.2
-
 pub overflow_add-reached : goal.overflow_add-reached
 overflow_add-reached c =
     let r = run-told c.loop-taken.invariant.0 c.in-Some.level c.in-Some.run' c.in-Ok.taken.next (said c) in

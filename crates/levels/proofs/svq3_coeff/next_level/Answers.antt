@@ -54,14 +54,8 @@ returns-then-known-gt0 c =
     let a = c.args in
     end-stepped a.book (bit_list a.bits.bytes.now) a.at _ refl (ap (answered a.at) (sym (ended c)))
 
-pub entry_of-requires : goal.entry_of-requires
-entry_of-requires c = omega arith
-
 pub overflow_add-result : goal.overflow_add-result
 overflow_add-result c = omega (arith, there (goal.at.overflow_add-result c).Then-size-known)
 
 pub overflow_add-result-then-known-gt0 : goal.overflow_add-result-then-known-gt0
 overflow_add-result-then-known-gt0 c = omega (arith, inside c.args.book c.args.bits.bytes.now c.args.at _ _ (ended c) (omega arith))
-
-pub returns : goal.returns
-returns c = c.read_next.ensures
