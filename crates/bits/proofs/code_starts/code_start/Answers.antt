@@ -24,12 +24,6 @@ says : (w : ℕ) → w < 512 → Begins w (before w) (head w)
 unfolding count_leading_zeros
 says w h = computed before head tt w h
 
-pub overflow_add-result : goal.overflow_add-result
-overflow_add-result c = let w = c.args.nine in omega (arith, mask_lt (bit_or (pairs w) (pairs w / 2 ^ 2)) 4)
-
-pub overflow_shl-result : goal.overflow_shl-result
-overflow_shl-result c = omega (arith, (says c.args.nine c.requires).within)
-
 pub returns : goal.returns
 returns c =
     let b = says c.args.nine c.requires in

@@ -15,24 +15,12 @@ pub returns-then-bits-at : goal.returns-then-bits-at
 unfolding code
 returns-then-bits-at c = c.read_on.ensures
 
-pub read_on-requires-in_default : goal.read_on-requires-in_default
-read_on-requires-in_default c = let s = c.code_start-start in let b = s.ensures.says in (omega (arith, b.small), omega (arith, b.more (ten s.result.before c.in_default.is)))
-
 pub returns-in_default : goal.returns-in_default
 returns-in_default c =
     let a = c.args in
     let w = c.nine_at in
     let s = c.code_start-start in
     c.read_on-in_default.ensures ∙ later (bit_list a.bits.bytes.now) a.at w.result _ s.result.head w.ensures.1 s.ensures.says (ten s.result.before c.in_default.is)
-
-pub overflow_sub-result : goal.overflow_sub-result
-overflow_sub-result c = let s = c.code_start-start.ensures in omega (arith, s.below _ c.in-Some.is, s.says.some, s.says.small)
-
-pub overflow_add-result : goal.overflow_add-result
-overflow_add-result c = let s = c.code_start-start.ensures in omega (arith, s.below _ c.in-Some.is, s.says.some, s.says.small)
-
-pub overflow_add-result-2 : goal.overflow_add-result-2
-overflow_add-result-2 c = let s = c.code_start-start.ensures in omega (arith, s.below _ c.in-Some.is, s.says.some, s.says.small)
 
 pub returns : goal.returns
 returns c =

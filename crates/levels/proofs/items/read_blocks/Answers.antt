@@ -17,15 +17,6 @@ loop-i-init c =
     let f : a.place + 16 * 0 ≡ a.place = omega arith in
     (rw (z, f) (goes-all (read_side NormalScan a.start a.count a.place) (left_side NormalScan a.start a.count a.place) a.levels.now (bit_list a.bits.bytes.now) a.at), omega arith, refl)
 
-pub overflow_mul-i : goal.overflow_mul-i
-overflow_mul-i c = record { fits = omega (arith, c.loop-i-test.true, c.requires.0) }
-
-pub overflow_add-place : goal.overflow_add-place
-overflow_add-place c = record { fits = omega (arith, c.loop-i-test.true, c.requires.0) }
-
-pub decode_residual_4x4_normal-requires : goal.decode_residual_4x4_normal-requires
-decode_residual_4x4_normal-requires c = (omega (arith, c.loop-i-test.true, c.requires.0, c.loop-i.invariant.2), c.requires.1)
-
 pub loop-i-preserved : goal.loop-i-preserved
 loop-i-preserved c =
     let a = c.args in

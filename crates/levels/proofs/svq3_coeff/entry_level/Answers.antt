@@ -8,6 +8,3 @@ use Rattle.levels.proofs.svq3_coeff.entry_level.Goals as goal
 pub returns : goal.returns
 unfolding entry_level
 returns c = level-less (c.args.entry / 65536) (omega arith)
-
-pub overflow_sub-result : goal.overflow_sub-result
-overflow_sub-result c = less-fits (c.args.entry / 65536) (omega arith)
