@@ -11,4 +11,4 @@ use Rattle.levels.proofs.items.read_blocks.Given as goal
 
 abbrev pub invariant-loop-i : goal.invariant-loop-i
 invariant-loop-i l =
-    Goes (read_side NormalScan l.start l.count l.place) (left_side NormalScan l.start l.count l.place) l.initial.levels (bit_list l.bits.bytes.now) l.at l.p (read_side NormalScan l.start (l.count - l.i) (l.place + 16 * l.i) l.levels (drop l.p (bit_list l.bits.bytes.now))) (left_side NormalScan l.start (l.count - l.i) (l.place + 16 * l.i) l.levels (drop l.p (bit_list l.bits.bytes.now))) × (l.i ≤ l.count) × (length l.levels ≡ length l.initial.levels)
+    Goes (read_side NormalScan l.start l.count l.place) (left_side NormalScan l.start l.count l.place) l.initial.levels (bit_list l.bits.bytes.now) l.at l.p (read_side NormalScan l.start (l.count - l.i) (l.place + 16 * l.i) l.levels (drop l.p (bit_list l.bits.bytes.now))) (left_side NormalScan l.start (l.count - l.i) (l.place + 16 * l.i) l.levels (drop l.p (bit_list l.bits.bytes.now)))
