@@ -1,6 +1,7 @@
 // What seven bits, the first of them 0, say of the (level, run) code that starts there, by book: the code's number of bits in the lowest byte,
 // its run in the next, its level and 4 above; none where no code ends within them. The compiler makes tables in constant memory of them.
-// Two functions: one over the book would have the arms of both, and none of them once.
+// Two functions: one over the book would have the arms of both, and none of them once. The bits are a number with the clause that it is below 64,
+// here and in `entry_of`: it is made in one place, and a type would be opened at once by the `match`.
 ghost use Rattle.std.specs.Prelude.{◌≡◌, ◌<◌, get_or, unwrap_or};
 ghost use Rattle.levels.specs.InnerEntries.{normal_scan, chroma_dc};
 

@@ -71,11 +71,7 @@ pub fn resolve_level_run(book: ResidualBook, code: u32) -> Option<(i32, u32)>
     }
     let half = half_of(code);
     let (magnitudes, runs, escape) = match book {
-        ResidualBook::NormalScan => (
-            NORMAL_SCAN_MAGNITUDES,
-            NORMAL_SCAN_RUNS,
-            NORMAL_SCAN_ESCAPE,
-        ),
+        ResidualBook::NormalScan => (NORMAL_SCAN_MAGNITUDES, NORMAL_SCAN_RUNS, NORMAL_SCAN_ESCAPE),
         ResidualBook::ChromaDc => (CHROMA_DC_MAGNITUDES, CHROMA_DC_RUNS, CHROMA_DC_ESCAPE),
     };
     if code < escape {
@@ -84,7 +80,8 @@ pub fn resolve_level_run(book: ResidualBook, code: u32) -> Option<(i32, u32)>
     }
     let run = half % positions_of(book);
     let magnitude = match book {
-        ResidualBook::NormalScan => (code - escape) / 32 + NORMAL_SCAN_ESCAPE_LEVEL_BASE[run as usize],
+        ResidualBook::NormalScan => (code - escape) / 32
+            + NORMAL_SCAN_ESCAPE_LEVEL_BASE[run as usize],
         ResidualBook::ChromaDc => (code - CHROMA_DC_ESCAPE_CODE_BASE[run as usize]) / 8 + 3,
     };
     Some((level_of(code, magnitude), run))
@@ -224,6 +221,8 @@ fn decode_list(
 }
 
 // A 4×4 block's list, from position 0, or from 1 where only the AC levels are sent. It and the next one are `decode_list` by the Rust's names.
+// The start is a number with the clause that it is at most 1, here and where such lists are read and parsed: positions are counted on from it,
+// and an enum would be turned into it at once.
 pub fn decode_residual_4x4_normal(
     out: &mut [i32],
     base: usize,

@@ -7,16 +7,14 @@ use levels::svq3_coeff::ResidualBook;
 use lists::take_numbers;
 use vectors::svq3_mb::{Partition, num_motion_vectors};
 
-fn code_agrees(expected: Expected, bits: Bits, values: &[i32], at: usize) -> bool
-{
+fn code_agrees(expected: Expected, bits: Bits, values: &[i32], at: usize) -> bool {
     match bits::svq3::read_universal_code(bits, at) {
         Ok((k, next)) => expected.accepts(next) & (values == [k.cast_signed()].as_slice()),
         Err(why) => expected.refuses(why),
     }
 }
 
-fn signed_agrees(expected: Expected, bits: Bits, values: &[i32], at: usize) -> bool
-{
+fn signed_agrees(expected: Expected, bits: Bits, values: &[i32], at: usize) -> bool {
     match bits::svq3_mv::read_signed_code(bits, at) {
         Ok((v, next)) => expected.accepts(next) & (values == [v].as_slice()),
         Err(why) => expected.refuses(why),
@@ -30,8 +28,7 @@ fn precision_agrees(
     at: usize,
     halfpel: bool,
     thirdpel: bool,
-) -> bool
-{
+) -> bool {
     match vectors::svq3_mb::read_inter_mv_precision_p_frame(bits, at, thirdpel, halfpel) {
         Ok((p, next)) => {
             let number = vectors::svq3_mb::precision_number(p).cast_signed();
@@ -41,8 +38,7 @@ fn precision_agrees(
     }
 }
 
-fn pattern_agrees(expected: Expected, bits: Bits, values: &[i32], at: usize) -> bool
-{
+fn pattern_agrees(expected: Expected, bits: Bits, values: &[i32], at: usize) -> bool {
     match levels::svq3_cbp::read_cbp_inter(bits, at) {
         Ok((v, next)) => expected.accepts(next) & (values == [i32::from(v)].as_slice()),
         Err(why) => expected.refuses(why),
@@ -69,8 +65,7 @@ fn list_agrees(expected: Expected, bits: Bits, values: &[i32], at: usize, start:
     }
 }
 
-fn dc_agrees(expected: Expected, bits: Bits, values: &[i32], at: usize) -> bool
-{
+fn dc_agrees(expected: Expected, bits: Bits, values: &[i32], at: usize) -> bool {
     let mut levels = [0i32; 4];
     match levels::svq3_coeff::decode_chroma_dc_2x2(&mut levels, 0, bits, at) {
         Ok(next) => expected.accepts(next) & (values == levels.as_slice()),
@@ -106,8 +101,7 @@ fn partitions_agree(expected: Expected, values: &[i32], at: usize, mode: u32) ->
 }
 
 // Whether a reader answers as expected.
-pub fn agrees(reader: Reader, at: usize, expected: Expected, bits: Bits, answered: &[u8]) -> bool
-{
+pub fn agrees(reader: Reader, at: usize, expected: Expected, bits: Bits, answered: &[u8]) -> bool {
     let mut numbers = [0i32; 64];
     take_numbers(&mut numbers, answered);
     let Some(values) = numbers.get(..answered.len() / 4) else {

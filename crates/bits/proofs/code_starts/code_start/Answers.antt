@@ -1,7 +1,7 @@
 -- `bits::code_starts::code_start`: what it computes passes the test at every nine bits.
 use Prim.Native.Nat.{ℕ, ◌+◌, ◌*◌, ◌/◌, ◌%◌, ◌^◌, ◌<◌}
 use native.Mathlib.Omega.{arith}
-use lib.Bits.{bit_and, bit_or, mask_lt}
+use lib.Bits.{bit_and, bit_or}
 use lib.Count.{count_leading_zeros}
 use mathlib.Core.Path.{◌≡◌}
 use Rattle.std.proofs.lemmas.Option.{same_Some, none-some}
@@ -28,5 +28,6 @@ pub returns : goal.returns
 returns c =
     let b = says c.args.nine c.requires in
     elim c.if-found-lt10.branch [
-      then-found-lt10 w ↦ rw w.result-is (record { says = b; below = λ n e. omega (arith, w.if-found-lt10.true, same_Some _ n e) }) |
-      else-found-lt10 w ↦ let t : before c.args.nine ≡ 10 = omega (arith, b.within, w.if-found-lt10.false) in rw (w.result-is, ← t) (record { says = b; below = λ n e. absurd (none-some n e) }) ]
+      | then-found-lt10 w ↦ rw w.result-is (record { says = b; below = λ n e. omega (arith, w.if-found-lt10.true, same_Some _ n e) })
+      | else-found-lt10 w ↦ let t : before c.args.nine ≡ 10 = omega (arith, b.within, w.if-found-lt10.false) in rw (w.result-is, ← t) (record { says = b; below = λ n e. absurd (none-some n e) })
+    ]

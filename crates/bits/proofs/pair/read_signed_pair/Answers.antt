@@ -1,15 +1,12 @@
 -- `bits::pair::read_signed_pair` answers both codes: by what the 25 bits at its place say where both are short, and else one after the other.
 use mathlib.Core.Path.{◌∙◌}
-use Prim.Native.Nat.{◌+◌, ◌-◌, ◌*◌, ◌%◌, ◌^◌, ◌<◌}
+use Prim.Native.Nat.{◌+◌, ◌-◌, ◌*◌, ◌%◌, ◌^◌}
 use native.Mathlib.Omega.{arith}
-use borrow.Author.Tests.{eqb-false}
-use lib.Dec.{eqb}
 use lib.ListN.{drop}
 use mir.Syntax.{w32}
 use mir.Facts.{to_z-of_z}
 use Rattle.bits.specs.Bits.{bit_list}
 use Rattle.std.specs.Prelude.{Ok}
-use Rattle.bits.proofs.Table.{neither}
 use Rattle.bits.proofs.Pairs.{passed-half, signed-here, pair_found}
 use Rattle.bits.proofs.pair.read_signed_pair.Goals as goal
 

@@ -2,7 +2,6 @@
 use mathlib.Core.Path.{◌≡◌, refl, ◌∙◌}
 use Prim.Native.Nat.{ℕ}
 use Rattle.std.specs.Prelude.{Option, None, unwrap_or}
-use native.Mathlib.Omega.{arith}
 use Rattle.bits.specs.Bits.{bit_list}
 use Rattle.bits.specs.Code.{code}
 use Rattle.bits.proofs.CodeStarts.{at_once, later}

@@ -4,7 +4,7 @@ use Prim.Native.Nat.{◌+◌, ◌/◌}
 use native.Mathlib.Omega.{arith}
 use mir.Syntax.{w32}
 use mir.Facts.{to_z_pos}
-use Rattle.bits.proofs.SignedCode.{when-odd, when-even, neg-fits, neg_is}
+use Rattle.bits.proofs.SignedCode.{when-odd, when-even, neg_is}
 use Rattle.bits.proofs.svq3_mv.signed_of.Goals as goal
 
 -- src/svq3_mv.rt:18:1

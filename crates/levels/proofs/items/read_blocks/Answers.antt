@@ -1,5 +1,5 @@
 -- `levels::items::read_blocks`: the lists that are left, joined to those that were read, are the whole.
-use mathlib.Core.Path.{◌≡◌, refl, ◌∙◌}
+use mathlib.Core.Path.{◌≡◌}
 use Prim.Native.Nat.{◌+◌, ◌-◌, ◌*◌}
 use native.Mathlib.Omega.{arith}
 use Rattle.bits.specs.Bits.{bit_list}

@@ -1,7 +1,6 @@
 -- `levels::items::read_blocks`: the lists that are left, joined to those that were read, are the whole.
-use mathlib.Core.Path.{◌≡◌}
-use Prim.Native.Nat.{◌+◌, ◌-◌, ◌*◌, ◌≤◌}
-use lib.ListN.{length, drop}
+use Prim.Native.Nat.{◌+◌, ◌-◌, ◌*◌}
+use lib.ListN.{drop}
 use Rattle.bits.specs.Bits.{bit_list}
 use Rattle.levels.specs.declared.svq3_coeff.ResidualBook.TheVariants.{NormalScan}
 use Rattle.levels.specs.InnerSides.{read_side}

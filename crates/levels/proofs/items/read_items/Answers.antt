@@ -1,5 +1,5 @@
 -- `levels::items::read_items`: what is still to be read, joined to what was read, is the whole.
-use mathlib.Core.Path.{◌≡◌, ◌∙◌}
+use mathlib.Core.Path.{◌≡◌}
 use native.Mathlib.Omega.{arith}
 use Rattle.bits.specs.Bits.{bit_list}
 use Rattle.levels.specs.Items.{read_items}

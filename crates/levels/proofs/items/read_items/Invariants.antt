@@ -1,7 +1,6 @@
 -- `levels::items::read_items`: what is still to be read, joined to what was read, is the whole.
-use mathlib.Core.Path.{◌≡◌}
-use Prim.Native.Nat.{◌-◌, ◌*◌, ◌≤◌}
-use lib.ListN.{length, drop}
+use Prim.Native.Nat.{◌-◌, ◌*◌}
+use lib.ListN.{drop}
 use Rattle.bits.specs.Bits.{bit_list}
 use Rattle.levels.specs.Items.{read_items}
 use Rattle.levels.specs.InnerLeft.{left_items}

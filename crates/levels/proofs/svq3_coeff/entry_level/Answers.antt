@@ -2,7 +2,7 @@
 use Prim.Native.Nat.{◌/◌}
 use native.Mathlib.Omega.{arith}
 use Rattle.levels.specs.InnerShort.{entry_level}
-use Rattle.levels.proofs.Shorts.{less-fits, level-less}
+use Rattle.levels.proofs.Shorts.{level-less}
 use Rattle.levels.proofs.svq3_coeff.entry_level.Goals as goal
 
 pub returns : goal.returns

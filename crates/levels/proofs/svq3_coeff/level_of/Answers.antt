@@ -1,5 +1,4 @@
 -- `levels::svq3_coeff::level_of` answers `level_of`: one return for each sign.
-use Rattle.bits.proofs.SignedCode.{neg-fits}
 use Rattle.levels.proofs.Entries.{positive, negative}
 use Rattle.levels.proofs.svq3_coeff.level_of.Goals as goal
 

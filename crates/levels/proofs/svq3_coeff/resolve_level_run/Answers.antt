@@ -21,8 +21,9 @@ record Tables (book : ResidualBook) (words : ℕ × ℕ × ℕ) : Type 0 where
 tables : (c : Joined-book) → Tables c.args.book c.match-book.magnitudes
 unfolding magnitudes runs
 tables c = elim c.match-book.branch [
-  in-NormalScan w ↦ rw (w.magnitudes-is, w.in-NormalScan.is) (record { magnitude = digits _ (magnitudes NormalScan) tt; run = digits _ (runs NormalScan) tt; first = refl }) |
-  in-ChromaDc w ↦ rw (w.magnitudes-is, w.in-ChromaDc.is) (record { magnitude = digits _ (magnitudes ChromaDc) tt; run = digits _ (runs ChromaDc) tt; first = refl }) ]
+  | in-NormalScan w ↦ rw (w.magnitudes-is, w.in-NormalScan.is) (record { magnitude = digits _ (magnitudes NormalScan) tt; run = digits _ (runs NormalScan) tt; first = refl })
+  | in-ChromaDc w ↦ rw (w.magnitudes-is, w.in-ChromaDc.is) (record { magnitude = digits _ (magnitudes ChromaDc) tt; run = digits _ (runs ChromaDc) tt; first = refl })
+]
 
 pub returns-then-code-eq0 : goal.returns-then-code-eq0
 unfolding resolve
@@ -42,8 +43,9 @@ escapes : (c : Joined-book-2) → Tables c.args.book c.match-book.magnitudes →
 unfolding escape_magnitude least chroma_base
 escapes c t =
     elim c.match-book-2.branch [
-      in-NormalScan-book w ↦ rw (w.magnitude-is, t.first, w.in-NormalScan-book.is) refl |
-      in-ChromaDc-book w ↦ rw (w.magnitude-is, w.in-ChromaDc-book.is) refl ]
+      | in-NormalScan-book w ↦ rw (w.magnitude-is, t.first, w.in-NormalScan-book.is) refl
+      | in-ChromaDc-book w ↦ rw (w.magnitude-is, w.in-ChromaDc-book.is) refl
+    ]
 
 pub overflow_add-magnitude : goal.overflow_add-magnitude
 unfolding least
