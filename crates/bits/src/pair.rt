@@ -43,12 +43,15 @@ pub fn read_signed_pair(bits: Bits, at: usize) -> Result<((i32, i32), usize), Re
     }
     let here = word_here(bits.bytes, at);
     let first = code_start(here >> 23);
-    let n = first.before + 1;
-    let second = code_start((here << n) >> 23);
-    let m = second.before + 1;
-    if (n == 11) | (m == 11) {
+    let Some(before) = first.before else {
         return read_apart(bits, at);
-    }
+    };
+    let n = before + 1;
+    let second = code_start((here << n) >> 23);
+    let Some(between) = second.before else {
+        return read_apart(bits, at);
+    };
+    let m = between + 1;
     let y = signed_of(first.head - 1);
     let x = signed_of(second.head - 1);
     Ok(((y, x), at + (n + m) as usize))

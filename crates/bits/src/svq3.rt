@@ -53,10 +53,9 @@ pub fn read_universal_code(bits: Bits, at: usize) -> Result<(u32, usize), Refusa
         return read_on(bits, at, 1, 31);
     }
     let start = code_start(nine_at(bits.bytes, at));
-    let before = start.before;
     let head = start.head;
-    if before == 10 {
+    let Some(before) = start.before else {
         return read_on(bits, at + 8, head / 2, 27);
-    }
+    };
     Ok((head - 1, at + before as usize + 1))
 }

@@ -28,6 +28,14 @@ pub by_runs : (f : ResidualBook → ℕ → Bool) → T (every (f NormalScan) 16
 by_runs f n c NormalScan r h = at (f NormalScan) 16 n r h
 by_runs f n c ChromaDc r h = at (f ChromaDc) 4 c r h
 
+pub escape-most : (book : ResidualBook) → escape book ≤ 31
+escape-most NormalScan = omega arith
+escape-most ChromaDc = omega arith
+
+pub below-positions : (book : ResidualBook) (h : ℕ) → h % positions book < positions book
+below-positions NormalScan h = omega arith
+below-positions ChromaDc h = omega arith
+
 -- by run: the least magnitudes lie in 1 .. 5
 least_right : ResidualBook → ℕ → Bool
 least_right book r = leb 1 (get_or (least book) r 0) && leb (get_or (least book) r 0) 5
@@ -38,6 +46,12 @@ least-range book r h =
     let t = by_runs least_right tt tt book r h in
     let b = get_or (least book) r 0 in
     (leb→le 1 b (both_left (leb 1 b) (leb b 5) t), leb→le b 5 (both_right (leb 1 b) (leb b 5) t))
+
+-- the magnitude of an escape fits
+pub escape-few : (book : ResidualBook) (r k : ℕ) → r < positions book → k < 2 ^ 32 → escape_magnitude book r k < 2 ^ 31
+unfolding escape_magnitude
+escape-few NormalScan r k h l = omega (arith, least-range NormalScan r h)
+escape-few ChromaDc r k h l = omega arith
 
 -- a chroma DC escape of a run is no less than the run's base
 pub base-range : (k : ℕ) → 23 ≤ k → (get_or chroma_base (half k % 4) 0 ≤ k) × (7 ≤ get_or chroma_base (half k % 4) 0)
@@ -60,18 +74,12 @@ pub negative : (k m : ℕ) → (k % 2 ≡ 1 → ⊥) → m < 2 ^ 31 → to_z w32
 unfolding level_of
 negative k m o h = rw (ne_eqb (k % 2) 1 o) (neg_is m h)
 
--- ---- level and run are what the book says: h is half of the code k, z the level
-module _ (book : ResidualBook) (k h : ℕ) (half_is : h ≡ half k) where
-  module _ (z : ℤ) (fits : mag z < 2 ^ 31) where
-    pub entry-said : k < escape book → z ≡ level_of k (get_or (magnitudes book) h 0) → ◌≡◌ {A = ℤ × ℕ} (to_z w32 (of_z w32 z), get_or (runs book) h 0) (level book k, run book k)
-    unfolding level magnitude run
-    entry-said l e = rw (to_z-of_z (record { sfits = fits }), lt-ltb k (escape book) l, e, half_is)
+-- ---- what a code k other than 0 says, h its half and z the level
+module _ (book : ResidualBook) (k h : ℕ) (half_is : h ≡ half k) (some : k ≡ 0 → ⊥) (z : ℤ) (fits : mag z < 2 ^ 31) (m r : ℕ) (level_is : z ≡ level_of k m) where
+  pub entry-said : k < escape book → m ≡ get_or (magnitudes book) h 0 → r ≡ get_or (runs book) h 0 → Some (to_z w32 (of_z w32 z), r) ≡ resolve book k
+  unfolding resolve level magnitude run
+  entry-said l e f = rw (to_z-of_z (record { sfits = fits }), ne_eqb k 0 some, lt-ltb k (escape book) l, level_is, e, f, half_is)
 
-    pub escape-said : escape book ≤ k → z ≡ level_of k (escape_magnitude book (h % positions book) k) → ◌≡◌ {A = ℤ × ℕ} (to_z w32 (of_z w32 z), h % positions book) (level book k, run book k)
-    unfolding level magnitude run
-    escape-said l e = rw (to_z-of_z (record { sfits = fits }), le-ltb k (escape book) l, e, half_is)
-
--- ---- what a code other than 0 says
-pub resolves : (book b : ResidualBook) (k : ℕ) → book ≡ b → (k ≡ 0 → ⊥) → Some (level b k, run b k) ≡ resolve book k
-unfolding resolve
-resolves book b k e n = rw (ne_eqb k 0 n, e)
+  pub escape-said : escape book ≤ k → m ≡ escape_magnitude book r k → r ≡ h % positions book → Some (to_z w32 (of_z w32 z), r) ≡ resolve book k
+  unfolding resolve level magnitude run
+  escape-said l e f = rw (to_z-of_z (record { sfits = fits }), ne_eqb k 0 some, le-ltb k (escape book) l, level_is, e, f, half_is)

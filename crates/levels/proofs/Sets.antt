@@ -6,6 +6,7 @@ use Prim.Native.Nat.{ℕ, zero, suc, ◌+◌, ◌-◌, ◌≤◌}
 use native.Mathlib.Nat.{add-zero}
 use native.Mathlib.Omega.{arith}
 use lib.ListN.{length, take, drop, set, replicate, length-append}
+use Rattle.std.proofs.lemmas.List.{drop-replicate, take-replicate}
 use lib.Seq.{sets, sets-eq, take-nil, take-set-le, drop-set-lt, take-add, take_at, drop_at, length-take-le}
 
 module _ {A : Type 0} where
@@ -42,25 +43,10 @@ module _ {A : Type 0} where
 
   -- any part of equal elements
   pub part-of-same : (n at m : ℕ) (a : A) → at + n ≤ m → take n (drop at (replicate m a)) ≡ replicate n a
-  part-of-same n zero m a h = front n m (omega arith)
-    where
-      front : (n m : ℕ) → n ≤ m → take n (replicate m a) ≡ replicate n a
-      front zero m h = refl
-      front (suc n) zero h = absurd (omega arith)
-      front (suc n) (suc m) h = ap (λ (l : List A). a ∷ l) (front n m (omega arith))
-  part-of-same n (suc at) zero a h = absurd (omega arith)
-  part-of-same n (suc at) (suc m) a h = part-of-same n at m a (omega arith)
+  part-of-same n at m a h = rw (drop-replicate at m a) (take-replicate n (m - at) a (omega arith))
 
   pub drop-of-same : (n m : ℕ) (a : A) → drop n (replicate m a) ≡ replicate (m - n) a
-  drop-of-same n m a = go n m
-    where
-      to : (j k : ℕ) → j ≡ k → replicate j a ≡ replicate k a
-      to j k e = ap (λ (i : ℕ). replicate i a) e
-
-      go : (n m : ℕ) → drop n (replicate m a) ≡ replicate (m - n) a
-      go zero m = to m (m - 0) (omega arith)
-      go (suc n) zero = to 0 (0 - suc n) (omega arith)
-      go (suc n) (suc m) = go n m ∙ to (m - n) (suc m - suc n) (omega arith)
+  drop-of-same = drop-replicate
 
   pub drop_of_take : (n m : ℕ) (l : List A) → drop n (take m l) ≡ take (m - n) (drop n l)
   drop_of_take zero m l = ap (λ (k : ℕ). take k l) (minus-zero m)

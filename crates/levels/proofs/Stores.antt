@@ -1,7 +1,7 @@
--- Runs of stores: one more at a time, one within, and one over another.
+-- Runs of stores: a store within one, and one run over another.
 -- Assumes nothing.
-use mathlib.Core.Path.{◌≡◌, refl, sym, ap, ◌∙◌}
-use mathlib.Core.List.{List, [], ◌∷◌, ◌++◌}
+use mathlib.Core.Path.{◌≡◌, refl, ap, ◌∙◌}
+use mathlib.Core.List.{List, [], ◌∷◌}
 use Prim.Native.Nat.{ℕ, zero, suc, ◌+◌, ◌<◌}
 use native.Mathlib.Nat.{add-zero}
 use native.Mathlib.Omega.{arith}
@@ -9,10 +9,6 @@ use lib.ListN.{length, set}
 use lib.Seq.{sets, set-set, set_comm}
 
 module _ {A : Type 0} where
-  sets-snoc : (l : List A) (b : ℕ) (xs : List A) (v : A) → sets l b (xs ++ v ∷ []) ≡ set (sets l b xs) (b + length xs) v
-  sets-snoc l b [] v = ap (λ (i : ℕ). set l i v) (sym (add-zero b))
-  sets-snoc l b (x ∷ xs) v = sets-snoc (set l b x) (suc b) xs v ∙ ap (λ (i : ℕ). set (sets (set l b x) (suc b) xs) i v) (omega arith)
-
   -- ---- a store before a run, and within it
   set_before : (l : List A) (b : ℕ) (xs : List A) (i : ℕ) (v : A) → i < b → set (sets l b xs) i v ≡ sets (set l i v) b xs
   set_before l b [] i v h = refl

@@ -25,6 +25,8 @@ pub fn item_coded(pattern: u8, i: usize) -> bool
 }
 
 // The list behind the group of list i, which is a luma quadrant, chroma DC or chroma AC: where list i is not coded, nothing before that one is.
+// A list is a number with the clause that it is below 26, here and where one is parsed: it is counted on by 1, or to the end of its group, which
+// is 26 behind the last; a type would be opened and made anew in each turn.
 pub fn group_end(i: usize) -> usize
     requires { i < 26 }
     ensures { Group i result }
@@ -105,7 +107,12 @@ fn read_ac(levels: &mut [i32; 392], bits: Bits, at: usize, pattern: u8) -> Resul
 }
 
 // All chroma lists that are coded.
-fn read_chroma(levels: &mut [i32; 392], bits: Bits, at: usize, pattern: u8) -> Result<usize, Refusal>
+fn read_chroma(
+    levels: &mut [i32; 392],
+    bits: Bits,
+    at: usize,
+    pattern: u8,
+) -> Result<usize, Refusal>
     ensures { Leaves (read_items 10 16 pattern) (left_items 10 16 pattern) levels.old (bit_list bits.entry.bytes.now) at result levels.new }
 {
     if chroma_class(pattern) == 0 {
@@ -116,7 +123,12 @@ fn read_chroma(levels: &mut [i32; 392], bits: Bits, at: usize, pattern: u8) -> R
 }
 
 // All coded lists, each stored at its place.
-pub fn read_items(levels: &mut [i32; 392], bits: Bits, at: usize, pattern: u8) -> Result<usize, Refusal>
+pub fn read_items(
+    levels: &mut [i32; 392],
+    bits: Bits,
+    at: usize,
+    pattern: u8,
+) -> Result<usize, Refusal>
     ensures { Leaves (read_items 26 0 pattern) (left_items 26 0 pattern) levels.old (bit_list bits.entry.bytes.now) at result levels.new }
 {
     let mut p = at;

@@ -34,7 +34,8 @@ pub fn read_cbp_inter(bits: Bits, at: usize) -> Result<(u8, usize), Refusal>
     Ok((cbp, next))
 }
 
-// Whether luma quadrant 0 to 3, by rows, has levels.
+// Whether luma quadrant 0 to 3, by rows, has levels. A quadrant is a number with the clause that it is below 4, here and where one is read,
+// written or added: each of those counts the four by `for`, and a type would be opened at once for the quadrant's place.
 pub fn luma_quadrant_coded(cbp: u8, quadrant: u32) -> bool
     requires { quadrant < 4 }
     ensures { result ≡ quadrant_coded cbp quadrant }

@@ -1,5 +1,5 @@
 // The (level, run) code books, and the lists of levels that their codes make. The books and lists are those of specs/Book.antt and specs/Levels.antt.
-ghost use Rattle.std.specs.Prelude.{◌≡◌, ◌+◌, ◌≤◌, ◌<◌, ◌^◌, length, get_or, drop};
+ghost use Rattle.std.specs.Prelude.{◌≡◌, ◌+◌, ◌≤◌, ◌<◌, ◌^◌, length, get_or, drop, unwrap_or};
 ghost use Rattle.std.proofs.lemmas.List.Edits.{sets};
 ghost use Rattle.refusal.specs.Answered.{answered};
 ghost use Rattle.bits.specs.Bits.{bit_list};
@@ -62,35 +62,6 @@ fn half_of(code: u32) -> u32
     code / 2 + code % 2
 }
 
-// Not one function with the next one: behind the escape a level is reckoned otherwise, not from other numbers.
-fn normal_level_run(code: u32) -> (i32, u32)
-    ensures { result ≡ (level ResidualBook.NormalScan code, run ResidualBook.NormalScan code) }
-{
-    let half = half_of(code);
-    if code < NORMAL_SCAN_ESCAPE {
-        let magnitude = digit(NORMAL_SCAN_MAGNITUDES, half);
-        let run = digit(NORMAL_SCAN_RUNS, half);
-        return (level_of(code, magnitude), run);
-    }
-    let run = half % 16;
-    let magnitude = (code - NORMAL_SCAN_ESCAPE) / 32 + NORMAL_SCAN_ESCAPE_LEVEL_BASE[run as usize];
-    (level_of(code, magnitude), run)
-}
-
-fn chroma_dc_level_run(code: u32) -> (i32, u32)
-    ensures { result ≡ (level ResidualBook.ChromaDc code, run ResidualBook.ChromaDc code) }
-{
-    let half = half_of(code);
-    if code < CHROMA_DC_ESCAPE {
-        let magnitude = digit(CHROMA_DC_MAGNITUDES, half);
-        let run = digit(CHROMA_DC_RUNS, half);
-        return (level_of(code, magnitude), run);
-    }
-    let run = half % 4;
-    let magnitude = (code - CHROMA_DC_ESCAPE_CODE_BASE[run as usize]) / 8 + 3;
-    (level_of(code, magnitude), run)
-}
-
 // What a code says: a level and the number of positions that it leaves out before it; none is the end of a list.
 pub fn resolve_level_run(book: ResidualBook, code: u32) -> Option<(i32, u32)>
     ensures { result ≡ resolve book code }
@@ -98,10 +69,22 @@ pub fn resolve_level_run(book: ResidualBook, code: u32) -> Option<(i32, u32)>
     if code == 0 {
         return None;
     }
-    match book {
-        ResidualBook::NormalScan => Some(normal_level_run(code)),
-        ResidualBook::ChromaDc => Some(chroma_dc_level_run(code)),
+    let half = half_of(code);
+    let (magnitudes, runs, escape) = match book {
+        ResidualBook::NormalScan => (NORMAL_SCAN_MAGNITUDES, NORMAL_SCAN_RUNS, NORMAL_SCAN_ESCAPE),
+        ResidualBook::ChromaDc => (CHROMA_DC_MAGNITUDES, CHROMA_DC_RUNS, CHROMA_DC_ESCAPE),
+    };
+    if code < escape {
+        let magnitude = digit(magnitudes, half);
+        return Some((level_of(code, magnitude), digit(runs, half)));
     }
+    let run = half % positions_of(book);
+    let magnitude = match book {
+        ResidualBook::NormalScan => (code - escape) / 32
+            + NORMAL_SCAN_ESCAPE_LEVEL_BASE[run as usize],
+        ResidualBook::ChromaDc => (code - CHROMA_DC_ESCAPE_CODE_BASE[run as usize]) / 8 + 3,
+    };
+    Some((level_of(code, magnitude), run))
 }
 
 // The next code of a list, read from the bytes.
@@ -117,9 +100,9 @@ fn read_level(
 }
 
 // What the look-up of a book says of seven bits, the first of them 0.
-fn entry_of(book: ResidualBook, bits: u64) -> u32
+fn entry_of(book: ResidualBook, bits: u64) -> Option<u32>
     requires { bits < 64 }
-    ensures { result ≡ get_or (entries book) bits 0 }
+    ensures { unwrap_or result 255 ≡ get_or (entries book) bits 0 }
 {
     match book {
         ResidualBook::NormalScan => normal_scan(bits),
@@ -161,14 +144,15 @@ fn next_level(bits: Bits, at: usize, book: ResidualBook, window: Window) -> Resu
     let word = window.word;
     let known = window.known;
     if word < 0x8000_0000_0000_0000 {
-        let entry = entry_of(book, word >> 57);
-        let size = entry % 256;
-        if size <= known {
-            return Ok(Taken {
-                said: Some((entry_level(entry), entry / 256 % 256)),
-                next: at + size as usize,
-                window: pass(window, size),
-            });
+        if let Some(entry) = entry_of(book, word >> 57) {
+            let size = entry % 256;
+            if size <= known {
+                return Ok(Taken {
+                    said: Some((entry_level(entry), entry / 256 % 256)),
+                    next: at + size as usize,
+                    window: pass(window, size),
+                });
+            }
         }
     } else {
         if 0 < known {
@@ -237,6 +221,8 @@ fn decode_list(
 }
 
 // A 4×4 block's list, from position 0, or from 1 where only the AC levels are sent. It and the next one are `decode_list` by the Rust's names.
+// The start is a number with the clause that it is at most 1, here and where such lists are read and parsed: positions are counted on from it,
+// and an enum would be turned into it at once.
 pub fn decode_residual_4x4_normal(
     out: &mut [i32],
     base: usize,

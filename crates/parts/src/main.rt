@@ -7,6 +7,7 @@ mod head;
 mod reading;
 
 use crate::head::{Head, Question};
+use bits::Bits;
 use std::fmt;
 
 // The plane of the blocks that follow: the first `size` samples.
@@ -78,7 +79,7 @@ fn agrees(head: Head, plane: &mut Plane) -> bool {
                 at,
                 expected,
             },
-        ) => reading::agrees(reader, at, expected, given, answered),
+        ) => reading::agrees(reader, at, expected, Bits { bytes: given }, answered),
         Some(Question::Block(block)) => block::agrees(block, plane, answered),
         Some(Question::LumaResidual { quantiser }) => added::luma_agrees(
             quantiser, given, answered,

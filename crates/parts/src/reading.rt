@@ -1,22 +1,20 @@
 // The readers of bits.
-ghost use Rattle.std.specs.Prelude.{◌≤◌, ◌<◌, ◌^◌, length};
+ghost use Rattle.std.specs.Prelude.{◌≤◌};
 
 use crate::head::{Expected, Reader};
+use bits::Bits;
 use levels::svq3_coeff::ResidualBook;
 use lists::take_numbers;
+use vectors::svq3_mb::{Partition, num_motion_vectors};
 
-fn code_agrees(expected: Expected, bits: &[u8], values: &[i32], at: usize) -> bool
-    requires { length bits.now < 2 ^ 61 }
-{
+fn code_agrees(expected: Expected, bits: Bits, values: &[i32], at: usize) -> bool {
     match bits::svq3::read_universal_code(bits, at) {
         Ok((k, next)) => expected.accepts(next) & (values == [k.cast_signed()].as_slice()),
         Err(why) => expected.refuses(why),
     }
 }
 
-fn signed_agrees(expected: Expected, bits: &[u8], values: &[i32], at: usize) -> bool
-    requires { length bits.now < 2 ^ 61 }
-{
+fn signed_agrees(expected: Expected, bits: Bits, values: &[i32], at: usize) -> bool {
     match bits::svq3_mv::read_signed_code(bits, at) {
         Ok((v, next)) => expected.accepts(next) & (values == [v].as_slice()),
         Err(why) => expected.refuses(why),
@@ -25,14 +23,12 @@ fn signed_agrees(expected: Expected, bits: &[u8], values: &[i32], at: usize) -> 
 
 fn precision_agrees(
     expected: Expected,
-    bits: &[u8],
+    bits: Bits,
     values: &[i32],
     at: usize,
     halfpel: bool,
     thirdpel: bool,
-) -> bool
-    requires { length bits.now < 2 ^ 61 }
-{
+) -> bool {
     match vectors::svq3_mb::read_inter_mv_precision_p_frame(bits, at, thirdpel, halfpel) {
         Ok((p, next)) => {
             let number = vectors::svq3_mb::precision_number(p).cast_signed();
@@ -42,9 +38,7 @@ fn precision_agrees(
     }
 }
 
-fn pattern_agrees(expected: Expected, bits: &[u8], values: &[i32], at: usize) -> bool
-    requires { length bits.now < 2 ^ 61 }
-{
+fn pattern_agrees(expected: Expected, bits: Bits, values: &[i32], at: usize) -> bool {
     match levels::svq3_cbp::read_cbp_inter(bits, at) {
         Ok((v, next)) => expected.accepts(next) & (values == [i32::from(v)].as_slice()),
         Err(why) => expected.refuses(why),
@@ -61,8 +55,8 @@ fn level_agrees(expected: Expected, values: &[i32], at: usize, book: ResidualBoo
     }
 }
 
-fn list_agrees(expected: Expected, bits: &[u8], values: &[i32], at: usize, start: u32) -> bool
-    requires { (length bits.now < 2 ^ 61) × (start ≤ 1) }
+fn list_agrees(expected: Expected, bits: Bits, values: &[i32], at: usize, start: u32) -> bool
+    requires { start ≤ 1 }
 {
     let mut levels = [0i32; 16];
     match levels::svq3_coeff::decode_residual_4x4_normal(&mut levels, 0, bits, at, start) {
@@ -71,9 +65,7 @@ fn list_agrees(expected: Expected, bits: &[u8], values: &[i32], at: usize, start
     }
 }
 
-fn dc_agrees(expected: Expected, bits: &[u8], values: &[i32], at: usize) -> bool
-    requires { length bits.now < 2 ^ 61 }
-{
+fn dc_agrees(expected: Expected, bits: Bits, values: &[i32], at: usize) -> bool {
     let mut levels = [0i32; 4];
     match levels::svq3_coeff::decode_chroma_dc_2x2(&mut levels, 0, bits, at) {
         Ok(next) => expected.accepts(next) & (values == levels.as_slice()),
@@ -94,24 +86,22 @@ fn value_is(values: &[i32], i: usize, n: usize) -> bool {
 fn partitions_agree(expected: Expected, values: &[i32], at: usize, mode: u32) -> bool
     requires { mode ≤ 7 }
 {
-    let n = vectors::svq3_mb::num_motion_vectors(mode);
+    let n = num_motion_vectors(mode);
+    let first = Partition::of_mode(mode, 0);
     let mut same = expected.accepts(at)
         & (values.len() == 3 + 2 * n)
         & value_is(values, 0, n)
-        & value_is(values, 1, vectors::svq3_mb::partition_width(mode))
-        & value_is(values, 2, vectors::svq3_mb::partition_height(mode));
+        & value_is(values, 1, 4 * first.wide)
+        & value_is(values, 2, 4 * first.high);
     for i in 0..n {
-        let x = vectors::svq3_mb::partition_offset_x(mode, i);
-        let y = vectors::svq3_mb::partition_offset_y(mode, i);
-        same &= value_is(values, 3 + 2 * i, x) & value_is(values, 4 + 2 * i, y);
+        let part = Partition::of_mode(mode, i);
+        same &= value_is(values, 3 + 2 * i, 4 * part.x) & value_is(values, 4 + 2 * i, 4 * part.y);
     }
     same
 }
 
 // Whether a reader answers as expected.
-pub fn agrees(reader: Reader, at: usize, expected: Expected, bits: &[u8], answered: &[u8]) -> bool
-    requires { length bits.now < 2 ^ 61 }
-{
+pub fn agrees(reader: Reader, at: usize, expected: Expected, bits: Bits, answered: &[u8]) -> bool {
     let mut numbers = [0i32; 64];
     take_numbers(&mut numbers, answered);
     let Some(values) = numbers.get(..answered.len() / 4) else {

@@ -15,15 +15,6 @@ returns-then-n-p c =
     let a = c.args in
     sym (ends a.bits.bytes.now l.p l.room l.m c.if-n-p.true) ∙ l.invariant.0
 
-pub bit_at-requires : goal.bit_at-requires
-bit_at-requires c = omega arith
-
-pub overflow_sub-k : goal.overflow_sub-k
-overflow_sub-k c = omega arith
-
-pub overflow_add-next : goal.overflow_add-next
-overflow_add-next c = omega arith
-
 pub returns-then-bit_at : goal.returns-then-bit_at
 returns-then-bit_at c =
     let l = c.loop-p in
@@ -36,17 +27,11 @@ returns-then-room-eq0 c =
     let a = c.args in
     sym (too_long a.bits.bytes.now l.p l.room l.m (omega arith) (sym c.if-bit_at.false ∙ c.bit_at.ensures) c.if-room-eq0.true) ∙ l.invariant.0
 
-pub overflow_add-d : goal.overflow_add-d
-overflow_add-d c = omega arith
-
 pub returns-then-n-d : goal.returns-then-n-d
 returns-then-n-d c =
     let l = c.loop-p in
     let a = c.args in
     sym (cut a.bits.bytes.now l.p l.room l.m (omega arith) (sym c.if-bit_at.false ∙ c.bit_at.ensures) (omega arith) c.if-n-d.true) ∙ l.invariant.0
-
-pub bit_at-requires-in-loop-p : goal.bit_at-requires-in-loop-p
-bit_at-requires-in-loop-p c = omega arith
 
 pub overflow_mul-m : goal.overflow_mul-m
 overflow_mul-m c =
@@ -62,15 +47,6 @@ pub overflow_mul-m-else-bit_at-2 : goal.overflow_mul-m-else-bit_at-2
 overflow_mul-m-else-bit_at-2 c =
     let l = c.loop-p in
     omega (arith, doubled l.room l.m (omega arith) l.invariant.1)
-
-pub overflow_sub-room : goal.overflow_sub-room
-overflow_sub-room c = omega arith
-
-pub overflow_add-p : goal.overflow_add-p
-overflow_add-p c = omega arith
-
-pub loop-p-smaller : goal.loop-p-smaller
-loop-p-smaller c = omega arith
 
 pub loop-p-preserved : goal.loop-p-preserved
 loop-p-preserved c =

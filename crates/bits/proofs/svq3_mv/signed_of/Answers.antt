@@ -4,12 +4,8 @@ use Prim.Native.Nat.{◌+◌, ◌/◌}
 use native.Mathlib.Omega.{arith}
 use mir.Syntax.{w32}
 use mir.Facts.{to_z_pos}
-use Rattle.bits.proofs.SignedCode.{when-odd, when-even, neg-fits, neg_is}
+use Rattle.bits.proofs.SignedCode.{when-odd, when-even, neg_is}
 use Rattle.bits.proofs.svq3_mv.signed_of.Goals as goal
-
--- src/svq3_mv.rt:23:40
-pub overflow_sub-result : goal.overflow_sub-result
-overflow_sub-result c = neg-fits ((c.args.k + 1) / 2) (omega arith)
 
 -- src/svq3_mv.rt:18:1
 pub returns-then-k-eq1 : goal.returns-then-k-eq1

@@ -1,5 +1,5 @@
 -- `levels::items::read_blocks`: the lists that are left, joined to those that were read, are the whole.
-use mathlib.Core.Path.{◌≡◌, refl, ◌∙◌}
+use mathlib.Core.Path.{◌≡◌}
 use Prim.Native.Nat.{◌+◌, ◌-◌, ◌*◌}
 use native.Mathlib.Omega.{arith}
 use Rattle.bits.specs.Bits.{bit_list}
@@ -15,33 +15,22 @@ loop-i-init c =
     let a = c.args in
     let z : a.count - 0 ≡ a.count = omega arith in
     let f : a.place + 16 * 0 ≡ a.place = omega arith in
-    (rw (z, f) (goes-all (read_side NormalScan a.start a.count a.place) (left_side NormalScan a.start a.count a.place) a.levels.now (bit_list a.bits.bytes.now) a.at), omega arith, refl)
-
-pub overflow_mul-i : goal.overflow_mul-i
-overflow_mul-i c = record { fits = omega (arith, c.loop-i-test.true, c.requires.0) }
-
-pub overflow_add-place : goal.overflow_add-place
-overflow_add-place c = record { fits = omega (arith, c.loop-i-test.true, c.requires.0) }
-
-pub decode_residual_4x4_normal-requires : goal.decode_residual_4x4_normal-requires
-decode_residual_4x4_normal-requires c = (omega (arith, c.loop-i-test.true, c.requires.0, c.loop-i.invariant.2), c.requires.1)
+    rw (z, f) (goes-all (read_side NormalScan a.start a.count a.place) (left_side NormalScan a.start a.count a.place) a.levels.now (bit_list a.bits.bytes.now) a.at)
 
 pub loop-i-preserved : goal.loop-i-preserved
 loop-i-preserved c =
     let a = c.args in
     let l = c.loop-i in
-    let h = c.loop-i-test.true in
-    let d = c.decode_residual_4x4_normal in
-    (side-on NormalScan a.start a.place a.count l.i l.p l.levels l.invariant.0 h _ _ d.ensures _ c.in_ok-p.was, omega (arith, h), d.auto.out ∙ l.invariant.2)
+    side-on NormalScan a.start a.place a.count l.i l.p l.levels l.invariant c.loop-i-test.true _ _ c.decode_residual_4x4_normal.ensures _ c.in_ok-p.was
 
 pub returns-in_err-p : goal.returns-in_err-p
 returns-in_err-p c =
     let a = c.args in
     let l = c.loop-i in
-    rw (handed _ _ c.from_residual.ensures) (side-stops NormalScan a.start a.place a.count l.i l.p l.levels l.invariant.0 c.loop-i-test.true _ _ c.decode_residual_4x4_normal.ensures _ c.in_err-p.was)
+    rw (handed _ _ c.from_residual.ensures) (side-stops NormalScan a.start a.place a.count l.i l.p l.levels l.invariant c.loop-i-test.true _ _ c.decode_residual_4x4_normal.ensures _ c.in_err-p.was)
 
 pub returns : goal.returns
 returns c =
     let a = c.args in
     let l = c.loop-i in
-    side-ends NormalScan a.start a.place a.count l.i l.p l.levels l.invariant.0 c.loop-i-test.false
+    side-ends NormalScan a.start a.place a.count l.i l.p l.levels l.invariant c.loop-i-test.false

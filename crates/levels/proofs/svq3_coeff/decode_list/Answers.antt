@@ -43,23 +43,14 @@ loop-taken-init c =
     let a = c.args in
     (begins a.book a.base a.out.now _ c.clear_list.ensures a.start a.at (bit_list a.bits.bytes.now) c.requires.1 c.requires.0, c.positions_of-count.ensures, c.window_at-window.ensures)
 
-pub next_level-requires : goal.next_level-requires
-next_level-requires c = c.loop-taken.invariant.2
-
 pub overflow_add-reached : goal.overflow_add-reached
 overflow_add-reached c =
     let r = run-told c.loop-taken.invariant.0 c.in-Some.level c.in-Some.run' c.in-Ok.taken.next (said c) in
     omega (arith, r, few c.args.book, c.loop-taken.invariant.0.within)
 
-pub clear_list-requires-then-count-reached : goal.clear_list-requires-then-count-reached
-clear_list-requires-then-count-reached c = room-now c.loop-taken.invariant.0
-
 pub returns-then-count-reached : goal.returns-then-count-reached
 returns-then-count-reached c =
     past-answer c.loop-taken.invariant.0 _ c.clear_list.ensures _ c.in-Some.level c.in-Some.run' c.in-Ok.taken.next c.clear_list-then-count-reached.ensures (said (goal.at.returns-then-count-reached c).In-Some) (omega (arith, c.if-count-reached.true, c.loop-taken.invariant.1))
-
-pub place_of-place-requires : goal.place_of-place-requires
-place_of-place-requires c = omega (arith, c.if-count-reached.false, c.loop-taken.invariant.1)
 
 pub overflow_add-level : goal.overflow_add-level
 overflow_add-level c = omega (arith, small c)
@@ -70,12 +61,6 @@ offset_bounds-out-base c = omega (arith, small c)
 pub bounds-out-base : goal.bounds-out-base
 bounds-out-base c = omega (arith, placed c, room-now c.loop-taken.invariant.0)
 
-pub overflow_add-position : goal.overflow_add-position
-overflow_add-position c = omega (arith, c.if-count-reached.false, c.loop-taken.invariant.1, few c.args.book)
-
-pub loop-taken-smaller : goal.loop-taken-smaller
-loop-taken-smaller c = omega (arith, c.if-count-reached.false, c.loop-taken.invariant.1)
-
 pub loop-taken-preserved : goal.loop-taken-preserved
 loop-taken-preserved c =
     let z : to_z w32 (of_z w32 c.in-Some.level) ≡ c.in-Some.level = search rules in
@@ -85,9 +70,6 @@ pub returns-in_default : goal.returns-in_default
 returns-in_default c =
     let t = c.in-Ok.taken in
     end-answer c.loop-taken.invariant.0 _ c.clear_list.ensures _ (sym (ap (λ (x : LevelRun). Ok (x, t.next)) c.in_default.is) ∙ sym (ap told c.in-Ok.is) ∙ c.next_level.ensures.says)
-
-pub clear_list-requires-in-Err : goal.clear_list-requires-in-Err
-clear_list-requires-in-Err c = room-now c.loop-taken.invariant.0
 
 pub returns-in-Err : goal.returns-in-Err
 returns-in-Err c = refused-answer c.loop-taken.invariant.0 _ c.clear_list.ensures _ _ c.clear_list-in-Err.ensures (sym (ap told c.in-Err.is) ∙ c.next_level.ensures.says)

@@ -1,10 +1,6 @@
 -- `levels::svq3_coeff::level_of` answers `level_of`: one return for each sign.
-use Rattle.bits.proofs.SignedCode.{neg-fits}
 use Rattle.levels.proofs.Entries.{positive, negative}
 use Rattle.levels.proofs.svq3_coeff.level_of.Goals as goal
-
-pub overflow_sub-result : goal.overflow_sub-result
-overflow_sub-result c = neg-fits c.args.magnitude c.requires
 
 pub returns-then-code-eq1 : goal.returns-then-code-eq1
 returns-then-code-eq1 c = positive c.args.code c.args.magnitude c.if-code-eq1.true c.requires

@@ -8,9 +8,6 @@ use Rattle.levels.proofs.ShortTable.{digits}
 use Rattle.levels.specs.Scan.{scan}
 use Rattle.levels.proofs.svq3_scan.place_of.Goals as goal
 
-pub digit-requires : goal.digit-requires
-digit-requires c = subst (λ b. c.args.position < positions b) c.in-NormalScan.is c.requires
-
 pub returns-in-NormalScan : goal.returns-in-NormalScan
 unfolding scan
 returns-in-NormalScan c =
