@@ -13,9 +13,6 @@ overflow_cast-pattern c =
     let a = c.args in
     omega (arith, field-most a.at 47 _ _ _ (lit< tt) (sym c.in_ok-pattern.was ∙ c.read_field.ensures))
 
-pub parse_items-requires : goal.parse_items-requires
-parse_items-requires c = ap length c.requires ∙ length-no_levels
-
 pub returns : goal.returns
 returns c vs =
     let a = c.args in
