@@ -10,8 +10,8 @@ use native.Mathlib.Omega.{arith}
 use borrow.Author.Tests.{leb-true, ltb-true, lt-ltb, le-ltb}
 use lib.Dec.{leb, ltb}
 use lib.IntN.{ℤ, pos, negsuc}
-use lib.ListN.{length, get_or, take, drop, set, length-set, length-drop, length-map, get_or-map}
-use lib.Seq.{sets, take-suc, length-take-le, get_or-set_same, get_or-set_other, get_or-take, get_or-drop}
+use lib.ListN.{length, get_or, take, set, length-set, length-map, get_or-map}
+use lib.Seq.{sets, take-suc, length-take-le, get_or-set_same, get_or-set_other, get_or-take}
 use Rattle.ints.specs.Z.{when◌then◌else◌}
 use Rattle.number.specs.Number.{number}
 use Rattle.number.specs.SignedNumber.{sent, signed_number}

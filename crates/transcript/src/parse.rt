@@ -111,7 +111,8 @@ fn take_received(bytes: &[u8], at: usize) -> [i32; 16]
     t
 }
 
-// Sixteen levels from the place `first` on, of which the first `start`, 0 or 1 of them, are 0.
+// Sixteen levels from the place `first` on, of which the first `start`, 0 or 1 of them, are 0. `start` is a number with its bound as a
+// clause here and in levels: places are computed with it, and of a type of its own each function would take the number out again.
 fn store_received(out: &mut [i32], t: &[i32; 16], first: usize, start: usize)
     requires { (start ≤ 1) × (first + 16 ≤ length out.old) }
     ensures { out.new ≡ sets out.old first (zeros start ++ drop start t.now) }
@@ -158,7 +159,12 @@ fn parse_item(levels: &mut [i32; 392], bytes: &[u8], at: usize, i: usize) -> Res
     read_signed_numbers(&mut levels[place + start..place + count], bytes, at)
 }
 
-fn parse_items(levels: &mut [i32; 392], bytes: &[u8], at: usize, pattern: u8) -> Result<usize, Refusal>
+fn parse_items(
+    levels: &mut [i32; 392],
+    bytes: &[u8],
+    at: usize,
+    pattern: u8,
+) -> Result<usize, Refusal>
     ensures { Left at (parse_items 26 0 pattern levels.old (drop at bytes.now)) result levels.new }
 {
     let mut p = at;
@@ -175,7 +181,8 @@ fn parse_items(levels: &mut [i32; 392], bytes: &[u8], at: usize, pattern: u8) ->
     Ok(p)
 }
 
-// Pattern, quantiser, levels.
+// Pattern, quantiser, levels. That they are zeros is a clause here, in parse_motion and in reading: it holds before the call alone, and a
+// type would hold it afterwards too.
 fn parse_residual(
     levels: &mut [i32; 392],
     bytes: &[u8],
@@ -191,7 +198,7 @@ fn parse_residual(
     Ok((with_residual(head, pattern, quantiser), next))
 }
 
-// What follows the mode of a record that is no skip, into slices of zeros: precision, clipped count, vectors, and the residual.
+// What follows the mode of a record that is no skip, into arrays of zeros: precision, clipped count, vectors, and the residual.
 pub fn parse_motion(
     vectors: &mut [i32; 32],
     levels: &mut [i32; 392],

@@ -152,7 +152,13 @@ fn put_items(out: &mut [u8], levels: &[i32; 392], at: usize, pattern: u8) -> usi
 }
 
 // What follows the mode of a record that is no skip.
-fn put_rest(out: &mut [u8], vectors: &[i32; 32], levels: &[i32; 392], at: usize, head: Head) -> usize
+fn put_rest(
+    out: &mut [u8],
+    vectors: &[i32; 32],
+    levels: &[i32; 392],
+    at: usize,
+    head: Head,
+) -> usize
     requires { HeadRange head × (at + length (rest_bytes (record_of head vectors.now levels.now)) ≤ length out.old) }
     ensures { Written out.old at (rest_bytes (record_of head vectors.now levels.now)) result out.new }
 {
@@ -165,7 +171,13 @@ fn put_rest(out: &mut [u8], vectors: &[i32; 32], levels: &[i32; 392], at: usize,
 }
 
 // Writes a record that is no skip from a place on, and answers the place after it.
-pub fn put_coded(out: &mut [u8], vectors: &[i32; 32], levels: &[i32; 392], at: usize, head: Head) -> usize
+pub fn put_coded(
+    out: &mut [u8],
+    vectors: &[i32; 32],
+    levels: &[i32; 392],
+    at: usize,
+    head: Head,
+) -> usize
     requires { HeadRange head × (0 < head.mode) × (at + 2089 ≤ length out.old) }
     ensures { Written out.old at (record_bytes (record_of head vectors.now levels.now)) result out.new }
 {

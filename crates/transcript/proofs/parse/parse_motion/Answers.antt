@@ -1,8 +1,7 @@
 -- `transcript::parse::parse_motion`: each part's answer, taken on to the whole.
-use mathlib.Core.Path.{sym, ap, ◌∙◌}
+use mathlib.Core.Path.{sym, ◌∙◌}
 use native.Mathlib.Omega.{arith}
-use lib.ListN.{length}
-use Rattle.record.proofs.Padded.{used-most, length-no_vectors}
+use Rattle.record.proofs.Padded.{used-most}
 use Rattle.refusal.proofs.Answered.{handed}
 use Rattle.transcript.proofs.Reading.{front-filled}
 use Rattle.transcript.proofs.Parsings.{no-precision, no-clipped, no-vectors, with-vectors}

@@ -1,9 +1,7 @@
 -- `transcript::parse::parse_residual`: each part's answer, taken on to the whole.
-use mathlib.Core.Path.{sym, ap, ◌∙◌}
+use mathlib.Core.Path.{sym, ◌∙◌}
 use native.Mathlib.Omega.{arith}
 use lib.Dec.{lit<}
-use lib.ListN.{length}
-use Rattle.levels.proofs.Lists.{length-no_levels}
 use Rattle.refusal.proofs.Answered.{handed}
 use Rattle.transcript.proofs.Parsings.{field-most, no-pattern, no-quantiser, no-levels, with-levels}
 use Rattle.transcript.proofs.parse.parse_residual.Goals as goal

@@ -1,7 +1,6 @@
 -- `transcript::write::put_chroma` writes chroma DC and chroma AC, chroma DC alone, or nothing.
 use mathlib.Core.Path.{sym, ◌∙◌}
 use native.Mathlib.Omega.{arith}
-use lib.Dec.{lit<}
 use Rattle.levels.proofs.Sides.{ac-side, ac-place, class-two, not-class-two}
 use Rattle.record.proofs.SideBytes.{side-written, side-unwritten}
 use Rattle.transcript.proofs.Writing.{written_none, still-room, still-last, still-none, no-chroma-bytes, part-most, dc-fits, dc-still}
