@@ -5,3 +5,4 @@ pub mod Records
 pub mod Lengths
 pub mod Examples
 pub mod SideBytes
+pub mod Answers

@@ -10,8 +10,8 @@ use native.Mathlib.Omega.{arith}
 use borrow.Author.Tests.{leb-true, ltb-true, lt-ltb, le-ltb}
 use lib.Dec.{leb, ltb}
 use lib.IntN.{ℤ, pos, negsuc}
-use lib.ListN.{length, get_or, take, drop, set, length-set, length-drop, length-map, get_or-map}
-use lib.Seq.{sets, take-suc, length-take-le, get_or-set_same, get_or-set_other, get_or-take, get_or-drop}
+use lib.ListN.{length, get_or, take, set, length-set, length-map, get_or-map}
+use lib.Seq.{sets, take-suc, length-take-le, get_or-set_same, get_or-set_other, get_or-take}
 use Rattle.ints.specs.Z.{when◌then◌else◌}
 use Rattle.number.specs.Number.{number}
 use Rattle.number.specs.SignedNumber.{sent, signed_number}
@@ -92,23 +92,33 @@ shorts (z ∷ zs) (b ∷ bs) e h =
     rw (one_byte z b o.0 o.1, shorts zs bs (omega arith) (λ k i. h (suc k) (omega arith)))
 
 -- NUMBERS FROM -64 TO 63 ARE THE LIST OF WHAT THEY ARE SENT AS
-module _ (l : List ℤ) (first n : ℕ) (t : List ℕ) (h : first + n ≤ length l) (m : n ≤ 16) (s : Held l first n t) (e : short_sent t n ≡ true) where
-  pub short-numbers : signed_numbers (take n (drop first l)) ≡ take n (map sent_short t)
-  short-numbers =
-      let a : length (take n (drop first l)) ≡ n = length-take-le n (drop first l) (omega (arith, length-drop first l)) in
-      let b : length (take n (map sent_short t)) ≡ n = length-take-le n (map sent_short t) (omega (arith, s.size, length-map t sent_short)) in
-      shorts (take n (drop first l)) (take n (map sent_short t)) (b ∙ sym a) (λ k i.
-      let j : k < n = omega arith in
-      let r = short-each t n e k j in
-      let y = short-sent (get_or l (first + k) (pos 0)) (rw (← s.each k j) r.0) (rw (← s.each k j) r.1) in
-      rw (get_or-take n (map sent_short t) k 0 j, get_or-take n (drop first l) k (pos 0) j, get_or-drop first l k (pos 0), sent-at t k, s.each k j) y)
+module _ (l : List ℤ) (t : List ℕ) (m : length l ≤ 16) (s : Held l 0 (length l) t) where
+  abbrev held : List ℕ
+  held = take (length l) t
 
-  short-count : length (signed_numbers (take n (drop first l))) ≡ n
-  short-count = ap length short-numbers ∙ length-take-le n (map sent_short t) (omega (arith, s.size, length-map t sent_short))
+  held-length : length held ≡ length l
+  held-length = length-take-le (length l) t (omega (arith, s.size))
 
-  module _ (out : List ℕ) (at : ℕ) where
-    pub short-fits : at + length (signed_numbers (take n (drop first l))) ≤ length out → at + n ≤ length out
-    short-fits k = omega (arith, short-count)
+  held-at : (k : ℕ) → k < length l → get_or held k 0 ≡ held_of (get_or l k (pos 0))
+  held-at k h =
+      let z : 0 + k ≡ k = omega arith in
+      get_or-take (length l) t k 0 h ∙ s.each k h ∙ ap (λ (j : ℕ). held_of (get_or l j (pos 0))) z
 
-    pub short-written : {left : List ℕ} → left ≡ sets out at (take n (map sent_short t)) → Written out at (signed_numbers (take n (drop first l))) (at + n) left
-    short-written w = record { moved = omega (arith, short-count); leaves = w ∙ ap (sets out at) (sym short-numbers) }
+  module _ (e : short_sent held (length held) ≡ true) where
+    pub short-numbers : signed_numbers l ≡ map sent_short held
+    short-numbers =
+        shorts l (map sent_short held) (length-map held sent_short ∙ held-length) (λ k i.
+        let r = short-each held (length held) e k (omega (arith, held-length)) in
+        let h = held-at k i in
+        let y = short-sent (get_or l k (pos 0)) (rw (← h) r.0) (rw (← h) r.1) in
+        rw (sent-at held k, h) y)
+
+    short-count : length (signed_numbers l) ≡ length held
+    short-count = ap length short-numbers ∙ length-map held sent_short
+
+    module _ (out : List ℕ) (at : ℕ) where
+      pub short-fits : at + length (signed_numbers l) ≤ length out → at + length held ≤ length out
+      short-fits k = omega (arith, short-count)
+
+      pub short-written : {left : List ℕ} → left ≡ sets out at (map sent_short held) → Written out at (signed_numbers l) (at + length held) left
+      short-written w = record { moved = omega (arith, short-count); leaves = w ∙ ap (sets out at) (sym short-numbers) }

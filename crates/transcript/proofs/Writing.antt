@@ -3,11 +3,13 @@
 use mathlib.Core.Path.{◌≡◌, refl, sym, ap, ◌∙◌}
 use mathlib.Core.List.{List, [], ◌∷◌, ◌++◌, append_assoc, append-nil}
 use Prim.Native.Nat.{ℕ, suc, ◌+◌, ◌-◌, ◌*◌, ◌≤◌, ◌<◌}
+use native.Mathlib.Numerals.{add-one}
 use native.Mathlib.Omega.{arith}
+use Rattle.std.proofs.lemmas.List.{drop_all}
 use borrow.Author.Tests.{ne_eqb}
 use lib.Dec.{eqb}
 use lib.IntN.{ℤ, pos}
-use lib.ListN.{length, get_or, take, drop, length-append}
+use lib.ListN.{length, get_or, take, drop, length-append, length-take}
 use lib.Seq.{sets, length-sets, drop-cons, drop-drop, take-add}
 use Rattle.ints.specs.Z.{when◌then◌else◌}
 use Rattle.number.specs.Number.{number}
@@ -100,28 +102,29 @@ due-none d = still-none d.still refl
 
 -- ---- signed numbers
 -- the first of those that are left
-pub first-number : (xs : List ℤ) (first count i : ℕ) → i < count → first + count ≤ length xs
-    → signed_numbers (take (count - i) (drop (first + i) xs)) ≡ signed_number (get_or xs (first + i) (pos 0)) ++ signed_numbers (take (count - (i + 1)) (drop (first + (i + 1)) xs))
+first-number : (xs : List ℤ) (i : ℕ) → i < length xs → signed_numbers (drop i xs) ≡ signed_number (get_or xs i (pos 0)) ++ signed_numbers (drop (i + 1) xs)
 unfolding signed_numbers
-first-number xs first count i h k =
-    let e : count - i ≡ suc (count - (i + 1)) = omega arith in
-    let f : first + (i + 1) ≡ suc (first + i) = omega arith in
-    rw (e, f, drop-cons xs (first + i) (pos 0) (omega arith))
+first-number xs i h = rw (drop-cons xs i (pos 0) h, add-one i)
 
-module _ (xs : List ℤ) (first count i : ℕ) (h : i < count) (k : first + count ≤ length xs) {out₀ : List ℕ} {at : ℕ} {bytes out : List ℕ} {p : ℕ}
-    (s : Still out₀ at bytes out p (signed_numbers (take (count - i) (drop (first + i) xs)))) where
-  pub number_fits : (v : ℤ) → v ≡ get_or xs (first + i) (pos 0) → at + length bytes ≤ length out₀ → p + length (signed_number v) ≤ length out
-  number_fits v e = rw e (still-fits s (signed_number (get_or xs (first + i) (pos 0))) (signed_numbers (take (count - (i + 1)) (drop (first + (i + 1)) xs))) (first-number xs first count i h k))
+module _ (xs : List ℤ) (i : ℕ) (h : i < length xs) {out₀ : List ℕ} {at : ℕ} {bytes out : List ℕ} {p : ℕ} (s : Still out₀ at bytes out p (signed_numbers (drop i xs))) where
+  pub number_fits : (v : ℤ) → v ≡ get_or xs i (pos 0) → at + length bytes ≤ length out₀ → p + length (signed_number v) ≤ length out
+  number_fits v e = rw e (still-fits s (signed_number (get_or xs i (pos 0))) (signed_numbers (drop (i + 1) xs)) (first-number xs i h))
 
-  pub number_more : (v : ℤ) → v ≡ get_or xs (first + i) (pos 0) → (next : ℕ) (left : List ℕ) → (next ≡ p + length (signed_number v)) × (left ≡ sets out p (signed_number v))
-      → Still out₀ at bytes left next (signed_numbers (take (count - (i + 1)) (drop (first + (i + 1)) xs)))
-  number_more v e next left w = still-more s {a = signed_number v} (rw e (first-number xs first count i h k)) (record { moved = w.0; leaves = w.1 })
+  pub number_more : (v : ℤ) → v ≡ get_or xs i (pos 0) → (next : ℕ) (left : List ℕ) → (next ≡ p + length (signed_number v)) × (left ≡ sets out p (signed_number v)) → Still out₀ at bytes left next (signed_numbers (drop (i + 1) xs))
+  number_more v e next left w = still-more s {a = signed_number v} (rw e (first-number xs i h)) (record { moved = w.0; leaves = w.1 })
 
-pub no-numbers : (xs : List ℤ) (first count i : ℕ) → count ≤ i → signed_numbers (take (count - i) (drop (first + i) xs)) ≡ []
+pub no-numbers : (xs : List ℤ) (i : ℕ) → length xs ≤ i → signed_numbers (drop i xs) ≡ []
 unfolding signed_numbers
-no-numbers xs first count i h =
-    let e : count - i ≡ 0 = omega arith in
-    rw e
+no-numbers xs i h = rw (drop_all i xs h)
+
+-- a part of them, by where it ends
+pub part-numbers : (xs : List ℤ) (a b k : ℕ) → b ≡ a + k → signed_numbers (take (b - a) (drop a xs)) ≡ signed_numbers (take k (drop a xs))
+part-numbers xs a b k e =
+    let z : b - a ≡ k = omega arith in
+    ap (λ (n : ℕ). signed_numbers (take n (drop a xs))) z
+
+pub part-most : (xs : List ℤ) (a b k : ℕ) → b ≡ a + k → length (take (b - a) (drop a xs)) ≤ k
+part-most xs a b k e = omega (arith, length-take (b - a) (drop a xs))
 
 in_parts : (ys zs : List ℤ) → signed_numbers (ys ++ zs) ≡ signed_numbers ys ++ signed_numbers zs
 unfolding signed_numbers

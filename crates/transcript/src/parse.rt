@@ -58,21 +58,14 @@ pub fn parse_place(bytes: &[u8], at: usize, grid: Grid) -> Result<(RecordStart, 
     }
 }
 
-// `count` signed numbers, stored from the place `first` on.
-fn read_signed_numbers(
-    out: &mut [i32],
-    bytes: &[u8],
-    at: usize,
-    first: usize,
-    count: usize,
-) -> Result<usize, Refusal>
-    requires { first + count ≤ length out.old }
-    ensures { Left at (map_got (sets out.old first) (read_signeds count (drop at bytes.now))) result out.new }
+// Signed numbers, as many as there is room for.
+fn read_signed_numbers(out: &mut [i32], bytes: &[u8], at: usize) -> Result<usize, Refusal>
+    ensures { Left at (read_signeds (length out.old) (drop at bytes.now)) result out.new }
 {
     let mut p = at;
-    for i in 0..count {
+    for number in out.iter_mut() {
         let (v, next) = read_signed_number(bytes, p)?;
-        out[first + i] = v;
+        *number = v;
         p = next;
     }
     Ok(p)
@@ -84,8 +77,8 @@ fn all_short(bytes: &[u8], at: usize) -> bool
     ensures { result ≡ short_received bytes.now at 16 }
 {
     let mut short = true;
-    for i in 0..16 {
-        short = short & (bytes[at + i] < 128);
+    for byte in &bytes[at..at + 16] {
+        short = short & (*byte < 128);
     }
     short
 }
@@ -112,15 +105,16 @@ fn take_received(bytes: &[u8], at: usize) -> [i32; 16]
     ensures { Received bytes.now at 16 result }
 {
     let mut t = [0i32; 16];
-    for i in 0..16 {
-        t[i] = received_of(bytes[at + i] as u32);
+    for (i, byte) in bytes[at..at + 16].iter().enumerate() {
+        t[i] = received_of(u32::from(*byte));
     }
     t
 }
 
-// Sixteen levels from the place `first` on, of which the first `start`, 0 or 1 of them, are 0.
+// Sixteen levels from the place `first` on, of which the first `start`, 0 or 1 of them, are 0. `start` is a number with its bound as a
+// clause here and in levels: places are computed with it, and of a type of its own each function would take the number out again.
 fn store_received(out: &mut [i32], t: &[i32; 16], first: usize, start: usize)
-    requires { (start ≤ 1) × (length t.now ≡ 16) × (first + 16 ≤ length out.old) }
+    requires { (start ≤ 1) × (first + 16 ≤ length out.old) }
     ensures { out.new ≡ sets out.old first (zeros start ++ drop start t.now) }
 {
     out[first..first + 16].copy_from_slice(t);
@@ -147,8 +141,8 @@ fn item_count(i: usize) -> usize
 }
 
 // List i, stored at its place. Most numbers are short: a list of sixteen places is then read at once, all bytes before a level is stored, as in picture's store_row. An AC list's place 0 is not sent, and the byte before the list is taken for it.
-fn parse_item(levels: &mut [i32], bytes: &[u8], at: usize, i: usize) -> Result<usize, Refusal>
-    requires { (i < 26) × (length levels.old ≡ 392) }
+fn parse_item(levels: &mut [i32; 392], bytes: &[u8], at: usize, i: usize) -> Result<usize, Refusal>
+    requires { i < 26 }
     ensures { Left at (map_got (sets levels.old (item_place i)) (parse_item i (drop at bytes.now))) result levels.new }
 {
     let place = item_place(i);
@@ -162,11 +156,15 @@ fn parse_item(levels: &mut [i32], bytes: &[u8], at: usize, i: usize) -> Result<u
         }
     }
     levels[place] = 0;
-    read_signed_numbers(levels, bytes, at, place + start, count - start)
+    read_signed_numbers(&mut levels[place + start..place + count], bytes, at)
 }
 
-fn parse_items(levels: &mut [i32], bytes: &[u8], at: usize, pattern: u8) -> Result<usize, Refusal>
-    requires { length levels.old ≡ 392 }
+fn parse_items(
+    levels: &mut [i32; 392],
+    bytes: &[u8],
+    at: usize,
+    pattern: u8,
+) -> Result<usize, Refusal>
     ensures { Left at (parse_items 26 0 pattern levels.old (drop at bytes.now)) result levels.new }
 {
     let mut p = at;
@@ -183,9 +181,10 @@ fn parse_items(levels: &mut [i32], bytes: &[u8], at: usize, pattern: u8) -> Resu
     Ok(p)
 }
 
-// Pattern, quantiser, levels.
+// Pattern, quantiser, levels. That they are zeros is a clause here, in parse_motion and in reading: it holds before the call alone, and a
+// type would hold it afterwards too.
 fn parse_residual(
-    levels: &mut [i32],
+    levels: &mut [i32; 392],
     bytes: &[u8],
     at: usize,
     head: Head,
@@ -199,10 +198,10 @@ fn parse_residual(
     Ok((with_residual(head, pattern, quantiser), next))
 }
 
-// What follows the mode of a record that is no skip, into slices of zeros: precision, clipped count, vectors, and the residual.
+// What follows the mode of a record that is no skip, into arrays of zeros: precision, clipped count, vectors, and the residual.
 pub fn parse_motion(
-    vectors: &mut [i32],
-    levels: &mut [i32],
+    vectors: &mut [i32; 32],
+    levels: &mut [i32; 392],
     bytes: &[u8],
     at: usize,
     head: Head,
@@ -213,6 +212,6 @@ pub fn parse_motion(
     let used = 2 * num_motion_vectors(head.mode);
     let (precision, p) = read_field(bytes, at, 2)?;
     let (clipped, q) = read_field(bytes, p, used as u32)?;
-    let next = read_signed_numbers(vectors, bytes, q, 0, used)?;
+    let next = read_signed_numbers(&mut vectors[..used], bytes, q)?;
     parse_residual(levels, bytes, next, with_motion(head, precision, clipped))
 }

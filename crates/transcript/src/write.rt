@@ -15,20 +15,14 @@ use number::{put_number, put_signed_number};
 use record::Head;
 use vectors::svq3_mb::num_motion_vectors;
 
-// `count` signed numbers from the place `first` on, one after another.
-fn put_signed_numbers(
-    out: &mut [u8],
-    numbers: &[i32],
-    at: usize,
-    first: usize,
-    count: usize,
-) -> usize
-    requires { (first + count ≤ length numbers.now) × (at + length (signed_numbers (take count (drop first numbers.now))) ≤ length out.old) }
-    ensures { Written out.old at (signed_numbers (take count (drop first numbers.now))) result out.new }
+// Signed numbers, one after another.
+fn put_signed_numbers(out: &mut [u8], numbers: &[i32], at: usize) -> usize
+    requires { at + length (signed_numbers numbers.now) ≤ length out.old }
+    ensures { Written out.old at (signed_numbers numbers.now) result out.new }
 {
     let mut p = at;
-    for i in 0..count {
-        p = put_signed_number(out, p, numbers[first + i]);
+    for v in numbers {
+        p = put_signed_number(out, p, *v);
     }
     p
 }
@@ -48,51 +42,50 @@ fn sent_short(held: u8) -> u8
     if twice < 128 { twice } else { 255 - twice }
 }
 
-// `held_of` of `count` numbers from the place `first` on: the first of sixteen. Each is a byte, so that the compiler has sixteen in a register.
-fn take_held(numbers: &[i32], first: usize, count: usize) -> [u8; 16]
-    requires { (count ≤ 16) × (first + count ≤ length numbers.now) }
-    ensures { Held numbers.now first count result }
+// `held_of` of each number: the first of sixteen. Each is a byte, so that the compiler has sixteen in a register.
+fn take_held(numbers: &[i32]) -> [u8; 16]
+    requires { length numbers.now ≤ 16 }
+    ensures { Held numbers.now 0 (length numbers.now) result }
 {
     let mut t = [0u8; 16];
-    for i in 0..count {
-        let v = numbers[first + i];
-        t[i] = held_of(v);
+    for (i, v) in numbers.iter().enumerate() {
+        t[i] = held_of(*v);
     }
     t
 }
 
-// Whether each of the first `count` is that of a short number.
-fn all_short(t: &[u8; 16], count: usize) -> bool
-    requires { count ≤ 16 }
-    ensures { result ≡ short_sent t.now count }
+// Whether each is that of a short number.
+fn all_short(held: &[u8]) -> bool
+    ensures { result ≡ short_sent held.now (length held.now) }
 {
     let mut short = true;
-    for i in 0..count {
-        short = short & (64 <= t[i]) & (t[i] < 192);
+    for h in held {
+        short = short & (64 <= *h) & (*h < 192);
     }
     short
 }
 
-fn put_short(out: &mut [u8], t: &[u8; 16], at: usize, count: usize)
-    requires { (count ≤ 16) × (length t.now ≡ 16) × (at + count ≤ length out.old) }
-    ensures { out.new ≡ sets out.old at (take count (map sent_short t.now)) }
+fn put_short(out: &mut [u8], held: &[u8], at: usize)
+    requires { at + length held.now ≤ length out.old }
+    ensures { out.new ≡ sets out.old at (map sent_short held.now) }
 {
-    for i in 0..count {
-        out[at + i] = sent_short(t[i]);
+    for (i, h) in held.iter().enumerate() {
+        out[at + i] = sent_short(*h);
     }
 }
 
-// `count` signed numbers, most of them short. All are read before one is written, as in picture's store_row. The counts of its callers are literals, so that the compiler knows each loop's length.
-fn put_list(out: &mut [u8], numbers: &[i32], at: usize, first: usize, count: usize) -> usize
-    requires { (count ≤ 16) × (first + count ≤ length numbers.now) × (at + length (signed_numbers (take count (drop first numbers.now))) ≤ length out.old) }
-    ensures { Written out.old at (signed_numbers (take count (drop first numbers.now))) result out.new }
+// Signed numbers, most of them short. All are read before one is written, as in picture's store_row. Its callers' lists have a length that is a literal, so that the compiler knows each loop's length.
+fn put_list(out: &mut [u8], numbers: &[i32], at: usize) -> usize
+    requires { (length numbers.now ≤ 16) × (at + length (signed_numbers numbers.now) ≤ length out.old) }
+    ensures { Written out.old at (signed_numbers numbers.now) result out.new }
 {
-    let t = take_held(numbers, first, count);
-    if all_short(&t, count) {
-        put_short(out, &t, at, count);
-        return at + count;
+    let sixteen = take_held(numbers);
+    let held = &sixteen[..numbers.len()];
+    if all_short(held) {
+        put_short(out, held, at);
+        return at + held.len();
     }
-    put_signed_numbers(out, numbers, at, first, count)
+    put_signed_numbers(out, numbers, at)
 }
 
 // The four lists of a luma quadrant, which stand side by side from `place` on.
@@ -102,26 +95,26 @@ fn put_blocks(out: &mut [u8], levels: &[i32], at: usize, place: usize) -> usize
 {
     let mut p = at;
     for i in 0..4 {
-        p = put_list(out, levels, p, place + 16 * i, 16);
+        p = put_list(out, &levels[place + 16 * i..place + 16 * i + 16], p);
     }
     p
 }
 
 // The eight chroma AC lists, which have no place 0.
-fn put_ac(out: &mut [u8], levels: &[i32], at: usize) -> usize
-    requires { (length levels.now ≡ 392) × (at + length (side_bytes ResidualBook.NormalScan 1 8 264 levels.now) ≤ length out.old) }
+fn put_ac(out: &mut [u8], levels: &[i32; 392], at: usize) -> usize
+    requires { at + length (side_bytes ResidualBook.NormalScan 1 8 264 levels.now) ≤ length out.old }
     ensures { Written out.old at (side_bytes ResidualBook.NormalScan 1 8 264 levels.now) result out.new }
 {
     let mut p = at;
     for i in 0..8 {
-        p = put_list(out, levels, p, 265 + 16 * i, 15);
+        p = put_list(out, &levels[265 + 16 * i..280 + 16 * i], p);
     }
     p
 }
 
 // The lists of luma quadrant q, where they are coded.
-fn put_quadrant(out: &mut [u8], levels: &[i32], at: usize, pattern: u8, q: usize) -> usize
-    requires { (length levels.now ≡ 392) × (q < 4) × (at + length (items_bytes 4 (4 * q) pattern levels.now) ≤ length out.old) }
+fn put_quadrant(out: &mut [u8], levels: &[i32; 392], at: usize, pattern: u8, q: usize) -> usize
+    requires { (q < 4) × (at + length (items_bytes 4 (4 * q) pattern levels.now) ≤ length out.old) }
     ensures { Written out.old at (items_bytes 4 (4 * q) pattern levels.now) result out.new }
 {
     if luma_quadrant_coded(pattern, q as u32) {
@@ -131,8 +124,8 @@ fn put_quadrant(out: &mut [u8], levels: &[i32], at: usize, pattern: u8, q: usize
 }
 
 // The chroma lists that are coded.
-fn put_chroma(out: &mut [u8], levels: &[i32], at: usize, pattern: u8) -> usize
-    requires { (length levels.now ≡ 392) × (at + length (items_bytes 10 16 pattern levels.now) ≤ length out.old) }
+fn put_chroma(out: &mut [u8], levels: &[i32; 392], at: usize, pattern: u8) -> usize
+    requires { at + length (items_bytes 10 16 pattern levels.now) ≤ length out.old }
     ensures { Written out.old at (items_bytes 10 16 pattern levels.now) result out.new }
 {
     let class = chroma_class(pattern);
@@ -140,15 +133,15 @@ fn put_chroma(out: &mut [u8], levels: &[i32], at: usize, pattern: u8) -> usize
         return at;
     }
     // Cb DC and Cr DC stand side by side
-    let p = put_list(out, levels, at, 256, 8);
+    let p = put_list(out, &levels[256..264], at);
     if class == 2 {
         return put_ac(out, levels, p);
     }
     p
 }
 
-fn put_items(out: &mut [u8], levels: &[i32], at: usize, pattern: u8) -> usize
-    requires { (length levels.now ≡ 392) × (at + length (items_bytes 26 0 pattern levels.now) ≤ length out.old) }
+fn put_items(out: &mut [u8], levels: &[i32; 392], at: usize, pattern: u8) -> usize
+    requires { at + length (items_bytes 26 0 pattern levels.now) ≤ length out.old }
     ensures { Written out.old at (items_bytes 26 0 pattern levels.now) result out.new }
 {
     let mut p = at;
@@ -159,21 +152,33 @@ fn put_items(out: &mut [u8], levels: &[i32], at: usize, pattern: u8) -> usize
 }
 
 // What follows the mode of a record that is no skip.
-fn put_rest(out: &mut [u8], vectors: &[i32], levels: &[i32], at: usize, head: Head) -> usize
-    requires { HeadRange head × (length vectors.now ≡ 32) × (length levels.now ≡ 392) × (at + length (rest_bytes (record_of head vectors.now levels.now)) ≤ length out.old) }
+fn put_rest(
+    out: &mut [u8],
+    vectors: &[i32; 32],
+    levels: &[i32; 392],
+    at: usize,
+    head: Head,
+) -> usize
+    requires { HeadRange head × (at + length (rest_bytes (record_of head vectors.now levels.now)) ≤ length out.old) }
     ensures { Written out.old at (rest_bytes (record_of head vectors.now levels.now)) result out.new }
 {
     let p = put_number(out, at, head.precision);
     let p = put_number(out, p, head.clipped);
-    let p = put_signed_numbers(out, vectors, p, 0, 2 * num_motion_vectors(head.mode));
+    let p = put_signed_numbers(out, &vectors[..2 * num_motion_vectors(head.mode)], p);
     let p = put_number(out, p, head.pattern);
     let p = put_number(out, p, head.quantiser);
     put_items(out, levels, p, head.pattern as u8)
 }
 
 // Writes a record that is no skip from a place on, and answers the place after it.
-pub fn put_coded(out: &mut [u8], vectors: &[i32], levels: &[i32], at: usize, head: Head) -> usize
-    requires { HeadRange head × (0 < head.mode) × (length vectors.now ≡ 32) × (length levels.now ≡ 392) × (at + 2089 ≤ length out.old) }
+pub fn put_coded(
+    out: &mut [u8],
+    vectors: &[i32; 32],
+    levels: &[i32; 392],
+    at: usize,
+    head: Head,
+) -> usize
+    requires { HeadRange head × (0 < head.mode) × (at + 2089 ≤ length out.old) }
     ensures { Written out.old at (record_bytes (record_of head vectors.now levels.now)) result out.new }
 {
     let p = put_number(out, at, head.column);

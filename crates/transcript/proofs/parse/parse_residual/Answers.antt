@@ -1,9 +1,7 @@
 -- `transcript::parse::parse_residual`: each part's answer, taken on to the whole.
-use mathlib.Core.Path.{sym, ap, ◌∙◌}
+use mathlib.Core.Path.{sym, ◌∙◌}
 use native.Mathlib.Omega.{arith}
 use lib.Dec.{lit<}
-use lib.ListN.{length}
-use Rattle.levels.proofs.Lists.{length-no_levels}
 use Rattle.refusal.proofs.Answered.{handed}
 use Rattle.transcript.proofs.Parsings.{field-most, no-pattern, no-quantiser, no-levels, with-levels}
 use Rattle.transcript.proofs.parse.parse_residual.Goals as goal
@@ -12,9 +10,6 @@ pub overflow_cast-pattern : goal.overflow_cast-pattern
 overflow_cast-pattern c =
     let a = c.args in
     omega (arith, field-most a.at 47 _ _ _ (lit< tt) (sym c.in_ok-pattern.was ∙ c.read_field.ensures))
-
-pub parse_items-requires : goal.parse_items-requires
-parse_items-requires c = ap length c.requires ∙ length-no_levels
 
 pub returns : goal.returns
 returns c vs =

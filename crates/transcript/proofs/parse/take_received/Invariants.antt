@@ -1,7 +1,6 @@
 -- `transcript::parse::take_received`: one byte a turn.
-use Prim.Native.Nat.{◌≤◌}
 use Rattle.transcript.specs.InnerReceived.{Received}
 use Rattle.transcript.proofs.parse.take_received.Given as goal
 
 abbrev pub invariant-loop-i : goal.invariant-loop-i
-invariant-loop-i l = (l.i ≤ 16) × Received l.bytes l.at l.i l.t
+invariant-loop-i l = Received l.bytes l.at l.i l.t

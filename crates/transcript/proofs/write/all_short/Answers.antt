@@ -1,27 +1,13 @@
 -- `transcript::write::all_short`: one number a turn.
-use mathlib.Core.Path.{◌≡◌, refl}
+use mathlib.Core.Path.{refl}
 use native.Mathlib.Numerals.{add-one}
-use native.Mathlib.Omega.{arith}
 use Rattle.transcript.specs.InnerSent.{short_sent}
 use Rattle.transcript.proofs.write.all_short.Goals as goal
 
-pub loop-i-init : goal.loop-i-init
+pub loop-h-init : goal.loop-h-init
 unfolding short_sent
-loop-i-init c = (omega arith, refl)
+loop-h-init c = refl
 
-pub loop-i-preserved : goal.loop-i-preserved
+pub loop-h-preserved : goal.loop-h-preserved
 unfolding short_sent
-loop-i-preserved c =
-    let l = c.loop-i in
-    (omega arith, rw (add-one l.i, l.invariant.1))
-
-pub returns : goal.returns
-returns c =
-    let e : c.loop-i.i ≡ c.args.count = omega arith in
-    rw (← e) c.loop-i.invariant.1
-
-pub bounds-t-i : goal.bounds-t-i
-bounds-t-i c = omega arith
-
-pub bounds-t-i-in-loop-i : goal.bounds-t-i-in-loop-i
-bounds-t-i-in-loop-i c = omega arith
+loop-h-preserved c = rw (add-one c.loop-h.h-index, c.loop-h.invariant)

@@ -3,13 +3,12 @@ use mathlib.Core.Path.{◌≡◌, refl}
 use mathlib.Core.List.{List, ◌++◌}
 use Prim.Native.Nat.{ℕ, ◌+◌, ◌-◌, ◌*◌, ◌<◌}
 use native.Mathlib.Omega.{arith}
-use lib.Dec.{lit<}
 use lib.IntN.{ℤ}
 use lib.ListN.{take, drop}
 use Rattle.levels.specs.declared.svq3_coeff.ResidualBook.TheVariants.{NormalScan}
 use Rattle.record.specs.Write.{signed_numbers}
 use Rattle.record.specs.InnerSides.{side_bytes}
-use Rattle.transcript.proofs.Writing.{still-all, still-fits, still-more, still-none, first-list, no-list}
+use Rattle.transcript.proofs.Writing.{still-all, still-fits, still-more, still-none, part-numbers, part-most, first-list, no-list}
 use Rattle.transcript.proofs.write.put_ac.Goals as goal
 
 -- ---- list i, and those behind it
@@ -32,14 +31,16 @@ put_list-p-requires c =
     let l = c.loop-i in
     let h = c.loop-i-test.true in
     let ls = c.args.levels.now in
-    (lit< tt, omega (arith, h, c.requires.0), still-fits l.invariant.0 (one ls l.i) (behind ls l.i) (next-list ls l.i h) c.requires.1)
+    let e : 280 + 16 * l.i ≡ 265 + 16 * l.i + 15 = omega arith in
+    (omega (arith, part-most ls (265 + 16 * l.i) (280 + 16 * l.i) 15 e), rw (part-numbers ls (265 + 16 * l.i) (280 + 16 * l.i) 15 e) (still-fits l.invariant.0 (one ls l.i) (behind ls l.i) (next-list ls l.i h) c.requires))
 
 pub loop-i-preserved : goal.loop-i-preserved
 loop-i-preserved c =
     let ls = c.args.levels.now in
     let l = c.loop-i in
     let h = c.loop-i-test.true in
-    (still-more l.invariant.0 (next-list ls l.i h) c.put_list-p.ensures, omega (arith, h))
+    let e : 280 + 16 * l.i ≡ 265 + 16 * l.i + 15 = omega arith in
+    (still-more l.invariant.0 (next-list ls l.i h) (rw (part-numbers ls (265 + 16 * l.i) (280 + 16 * l.i) 15 e) at c.put_list-p.ensures), omega (arith, h))
 
 pub returns : goal.returns
 returns c = still-none c.loop-i.invariant.0 (no-list NormalScan 1 c.args.levels.now _ 8 c.loop-i.i c.loop-i-test.false)

@@ -8,7 +8,7 @@ use lib.ListN.{take, drop}
 use Rattle.levels.specs.declared.svq3_coeff.ResidualBook.TheVariants.{NormalScan}
 use Rattle.record.specs.Write.{signed_numbers}
 use Rattle.record.specs.InnerSides.{side_bytes}
-use Rattle.transcript.proofs.Writing.{still-all, still-fits, still-more, still-none, first-list, no-list}
+use Rattle.transcript.proofs.Writing.{still-all, still-fits, still-more, still-none, part-numbers, part-most, first-list, no-list}
 use Rattle.transcript.proofs.write.put_blocks.Goals as goal
 
 abbrev one : List ℤ → ℕ → ℕ → List ℕ
@@ -38,14 +38,17 @@ pub put_list-p-requires : goal.put_list-p-requires
 put_list-p-requires c =
     let l = c.loop-i in
     let h = c.loop-i-test.true in
-    (omega arith, omega (arith, h, c.requires.0), still-fits l.invariant.0 (one c.args.levels.now c.args.place l.i) (behind c.args.levels.now c.args.place l.i) (next-list c.args.levels.now c.args.place l.i h) c.requires.1)
+    let ls = c.args.levels.now in
+    let from = c.args.place + 16 * l.i in
+    (part-most ls from (from + 16) 16 refl, rw (part-numbers ls from (from + 16) 16 refl) (still-fits l.invariant.0 (one ls c.args.place l.i) (behind ls c.args.place l.i) (next-list ls c.args.place l.i h) c.requires.1))
 
 pub loop-i-preserved : goal.loop-i-preserved
 loop-i-preserved c =
     let a = c.args in
     let l = c.loop-i in
     let h = c.loop-i-test.true in
-    (still-more l.invariant.0 (next-list a.levels.now a.place l.i h) c.put_list-p.ensures, omega (arith, h))
+    let from = a.place + 16 * l.i in
+    (still-more l.invariant.0 (next-list a.levels.now a.place l.i h) (rw (part-numbers a.levels.now from (from + 16) 16 refl) at c.put_list-p.ensures), omega (arith, h))
 
 pub returns : goal.returns
 returns c = still-none c.loop-i.invariant.0 (no-list NormalScan 0 c.args.levels.now _ 4 c.loop-i.i c.loop-i-test.false)

@@ -1,10 +1,9 @@
 -- `transcript::write::put_chroma` writes chroma DC and chroma AC, chroma DC alone, or nothing.
 use mathlib.Core.Path.{sym, ◌∙◌}
 use native.Mathlib.Omega.{arith}
-use lib.Dec.{lit<}
 use Rattle.levels.proofs.Sides.{ac-side, ac-place, class-two, not-class-two}
 use Rattle.record.proofs.SideBytes.{side-written, side-unwritten}
-use Rattle.transcript.proofs.Writing.{written_none, still-room, still-last, still-none, no-chroma-bytes, dc-fits, dc-still}
+use Rattle.transcript.proofs.Writing.{written_none, still-room, still-last, still-none, no-chroma-bytes, part-most, dc-fits, dc-still}
 use Rattle.transcript.proofs.write.put_chroma.Goals as goal
 
 pub returns-then-class-eq0 : goal.returns-then-class-eq0
@@ -13,14 +12,14 @@ returns-then-class-eq0 c = let a = c.args in written_none a.out.now a.at _ (no-c
 pub put_list-p-requires : goal.put_list-p-requires
 put_list-p-requires c =
     let a = c.args in
-    (lit< tt, omega (arith, c.requires.0), dc-fits a.pattern a.levels.now a.out.now a.at (λ e. c.if-class-eq0.false (c.chroma_class-class.ensures ∙ e)) c.requires.1)
+    (omega (arith, part-most a.levels.now 256 264 8 (omega arith)), dc-fits a.pattern a.levels.now a.out.now a.at (λ e. c.if-class-eq0.false (c.chroma_class-class.ensures ∙ e)) c.requires)
 
 pub put_ac-requires : goal.put_ac-requires
 put_ac-requires c =
     let a = c.args in
     let class = c.chroma_class-class.ensures in
     let d = dc-still a.pattern a.levels.now (λ e. c.if-class-eq0.false (class ∙ e)) c.put_list-p.ensures in
-    (c.requires.0, rw (side-written ac-side a.pattern (class-two a.pattern (sym class ∙ c.if-class-eq2.true)) 264 ac-place a.levels.now) at (still-room d c.requires.1))
+    rw (side-written ac-side a.pattern (class-two a.pattern (sym class ∙ c.if-class-eq2.true)) 264 ac-place a.levels.now) at (still-room d c.requires)
 
 pub returns-then-class-eq2 : goal.returns-then-class-eq2
 returns-then-class-eq2 c =

@@ -16,7 +16,7 @@ abbrev R : Start → Record
 R s = record_of s.args.head s.args.vectors.now s.args.levels.now
 
 room : (s : Start) → s.args.at + length (record_bytes (R s)) ≤ length s.args.out.now
-room s = omega (arith, record-length (R s) s.requires.0, s.requires.4)
+room s = omega (arith, record-length (R s) s.requires.0, s.requires.2)
 
 abbrev ToWrite : Start → List ℕ → ℕ → List (List ℕ) → Type 0
 ToWrite s = Due s.args.out.now s.args.at (record_bytes (R s))
@@ -40,7 +40,7 @@ put_number-p-requires-3 c =
 pub put_rest-requires : goal.put_rest-requires
 put_rest-requires c =
     let s = (goal.at.put_rest-requires c).Start in
-    (c.requires.0, c.requires.2, c.requires.3, due-fits (due-number (due-number (due-number (d1 s) c.put_number-p.ensures) c.put_number-p-2.ensures) c.put_number-p-3.ensures) (room s))
+    (c.requires.0, due-fits (due-number (due-number (due-number (d1 s) c.put_number-p.ensures) c.put_number-p-2.ensures) c.put_number-p-3.ensures) (room s))
 
 pub returns : goal.returns
 returns c =

@@ -14,7 +14,7 @@ put_quadrant-p-requires c =
     let l = c.loop-q in
     let h = c.loop-q-test.true in
     let ls = c.args.levels.now in
-    (c.requires.0, h, still-fits l.invariant.0 (items_bytes 4 (4 * l.q) c.args.pattern ls) (items_bytes (26 - 4 * (l.q + 1)) (4 * (l.q + 1)) c.args.pattern ls) (quadrant-bytes c.args.pattern ls l.q h) c.requires.1)
+    (h, still-fits l.invariant.0 (items_bytes 4 (4 * l.q) c.args.pattern ls) (items_bytes (26 - 4 * (l.q + 1)) (4 * (l.q + 1)) c.args.pattern ls) (quadrant-bytes c.args.pattern ls l.q h) c.requires)
 
 pub loop-q-preserved : goal.loop-q-preserved
 loop-q-preserved c =
@@ -27,7 +27,7 @@ pub put_chroma-requires : goal.put_chroma-requires
 put_chroma-requires c =
     let l = c.loop-q in
     let e : l.q ≡ 4 = omega (arith, c.loop-q-test.false, l.invariant.1) in
-    (c.requires.0, still-room (rw e at l.invariant.0) c.requires.1)
+    still-room (rw e at l.invariant.0) c.requires
 
 pub returns : goal.returns
 returns c =

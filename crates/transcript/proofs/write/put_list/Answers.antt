@@ -5,12 +5,10 @@ use Rattle.transcript.proofs.write.put_list.Goals as goal
 
 pub put_short-requires : goal.put_short-requires
 put_short-requires c =
-    let s = c.take_held-t.ensures in
     let e = sym c.all_short.ensures ∙ c.if-all_short.true in
-    (c.requires.0, s.size, short-fits c.args.numbers.now c.args.first c.args.count _ c.requires.1 c.requires.0 s e c.args.out.now c.args.at c.requires.2)
+    short-fits c.args.numbers.now _ c.requires.0 c.take_held-sixteen.ensures e c.args.out.now c.args.at c.requires.1
 
 pub returns-then-all_short : goal.returns-then-all_short
 returns-then-all_short c =
-    let s = c.take_held-t.ensures in
     let e = sym c.all_short.ensures ∙ c.if-all_short.true in
-    short-written c.args.numbers.now c.args.first c.args.count _ c.requires.1 c.requires.0 s e c.args.out.now c.args.at c.put_short.ensures
+    short-written c.args.numbers.now _ c.requires.0 c.take_held-sixteen.ensures e c.args.out.now c.args.at c.put_short.ensures

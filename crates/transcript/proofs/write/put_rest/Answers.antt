@@ -47,30 +47,31 @@ d4 c =
 
 -- ---- the needs
 pub put_number-p-requires : goal.put_number-p-requires
-put_number-p-requires c = due-fits (d1 (goal.at.put_number-p-requires c).Start) c.requires.3
+put_number-p-requires c = due-fits (d1 (goal.at.put_number-p-requires c).Start) c.requires.1
 
 pub put_number-p-requires-2 : goal.put_number-p-requires-2
-put_number-p-requires-2 c = due-fits (due-number (d1 (goal.at.put_number-p-requires-2 c).Start) c.put_number-p.ensures) c.requires.3
+put_number-p-requires-2 c = due-fits (due-number (d1 (goal.at.put_number-p-requires-2 c).Start) c.put_number-p.ensures) c.requires.1
 
 pub overflow_mul-num_motion_vectors : goal.overflow_mul-num_motion_vectors
 overflow_mul-num_motion_vectors c = omega (arith, c.num_motion_vectors.ensures, used-most c.args.head.mode c.requires.0.mode)
 
 pub put_signed_numbers-p-requires : goal.put_signed_numbers-p-requires
-put_signed_numbers-p-requires c = (
-  omega (arith, c.num_motion_vectors.ensures, used-most c.args.head.mode c.requires.0.mode, c.requires.1),
-  rw (numbers c.args.vectors.now c.num_motion_vectors.ensures)
-      (due-fits (due-number (due-number (d1 (goal.at.put_signed_numbers-p-requires c).Start) c.put_number-p.ensures) c.put_number-p-2.ensures) c.requires.3),
-)
+put_signed_numbers-p-requires c =
+    rw (numbers c.args.vectors.now c.num_motion_vectors.ensures)
+    (due-fits (due-number (due-number (d1 (goal.at.put_signed_numbers-p-requires c).Start) c.put_number-p.ensures) c.put_number-p-2.ensures) c.requires.1)
+
+pub shared_ref_as_front-put_signed_numbers : goal.shared_ref_as_front-put_signed_numbers
+shared_ref_as_front-put_signed_numbers c = omega (arith, c.num_motion_vectors.ensures, used-most c.args.head.mode c.requires.0.mode)
 
 pub put_number-p-requires-3 : goal.put_number-p-requires-3
-put_number-p-requires-3 c = due-fits (d4 (goal.at.put_number-p-requires-3 c).After-put_signed_numbers-p) c.requires.3
+put_number-p-requires-3 c = due-fits (d4 (goal.at.put_number-p-requires-3 c).After-put_signed_numbers-p) c.requires.1
 
 pub put_number-p-requires-4 : goal.put_number-p-requires-4
-put_number-p-requires-4 c = due-fits (due-number (d4 (goal.at.put_number-p-requires-4 c).After-put_signed_numbers-p) c.put_number-p-3.ensures) c.requires.3
+put_number-p-requires-4 c = due-fits (due-number (d4 (goal.at.put_number-p-requires-4 c).After-put_signed_numbers-p) c.put_number-p-3.ensures) c.requires.1
 
 pub put_items-requires : goal.put_items-requires
 put_items-requires c =
-    (c.requires.2, due-fits (due-number (due-number (d4 (goal.at.put_items-requires c).After-put_signed_numbers-p) c.put_number-p-3.ensures) c.put_number-p-4.ensures) c.requires.3)
+    due-fits (due-number (due-number (d4 (goal.at.put_items-requires c).After-put_signed_numbers-p) c.put_number-p-3.ensures) c.put_number-p-4.ensures) c.requires.1
 
 pub returns : goal.returns
 returns c =
