@@ -10,6 +10,7 @@ use lib.ListN.{length, drop}
 use Rattle.ints.specs.Z.{when◌then◌else◌}
 use Rattle.ints.proofs.Fits.{if_no}
 use Rattle.refusal.specs.Got.{Got, got, refused}
+use Rattle.refusal.proofs.Answered.{Answered}
 use Rattle.refusal.specs.declared.Refusal.{Refusal}
 use Rattle.bits.specs.Bits.{bit_list}
 use Rattle.picture.specs.InnerPicture.{Within}
@@ -27,7 +28,7 @@ use Rattle.transcript.specs.Written.{Written}
 use Rattle.reading.specs.Read.{read_coded, read_macroblock}
 use Rattle.reading.specs.InnerAnswers.{Reading}
 use Rattle.std.specs.Prelude.{Result}
-use Rattle.reading.proofs.Answers.{ReadBy, was_read, read-refused, read-coded, read-in-range, read-head-range, read-no-skip}
+use Rattle.reading.proofs.Answers.{was_read, read-refused, read-coded, read-in-range, read-head-range, read-no-skip}
 use Rattle.apply.specs.Apply.{applied_luma, applied_chroma, applied_field}
 use Rattle.state.specs.State.{State, field_of, context_of, lengths_of}
 use Rattle.macroblock.specs.Decode.{quantiser_after, applied, outcome_of, asked, decoded}
@@ -137,7 +138,7 @@ module _ (s : State) (call : Call) (bits : List ℕ) (place : ℕ) (transcript :
         said : Reading place found_coded (Ok (h, next)) vs ls
         said = rw is at r
 
-        by : ReadBy place found_coded h next vs ls
+        by : Answered place found_coded (record_of h vs ls) next
         by = was_read place found_coded h next vs ls said
 
         pub range : RecordRange s.cols s.rows (record_of h vs ls)

@@ -8,6 +8,7 @@ use lib.IntN.{ℤ}
 use lib.ListN.{drop}
 use Rattle.ints.specs.Z.{when◌then◌else◌}
 use Rattle.refusal.specs.Got.{Got, got, refused}
+use Rattle.refusal.proofs.Answered.{Answered}
 use Rattle.refusal.proofs.Formats.{got-value, got-count, never}
 use Rattle.refusal.specs.declared.Refusal.{Refusal}
 use Rattle.record.specs.Record.{Record, skip_record}
@@ -21,7 +22,7 @@ use Rattle.transcript.specs.InnerParsing.{place_answer, Parsing}
 use Rattle.transcript.specs.InnerPlace.{parse_place}
 use Rattle.std.specs.Prelude.{Result, Ok, Err}
 use Rattle.transcript.specs.declared.parse.RecordStart.TheVariants.{Skip, Coded}
-use Rattle.transcript.proofs.Answers.{ParsedBy, parsed, parse-refused}
+use Rattle.transcript.proofs.Answers.{parsed, parse-refused}
 use Rattle.transcript.proofs.Places.{not-read, skip_read, coded-read, coded-parsed}
 use Rattle.picture.specs.InnerLent.{Slices}
 use Rattle.state.specs.State.{State}
@@ -58,7 +59,7 @@ module _ (s : State) (bytes : List ℕ) (at : ℕ) where
     no-motion why i = none why (parse-refused at read why vs ls (rw i at whole_is))
 
     module _ (o : Head) (end : ℕ) (i : a ≡ Ok (o, end)) where
-      by : ParsedBy at read o end vs ls
+      by : Answered at read (record_of o vs ls) end
       by = parsed at read o end vs ls (rw i at whole_is)
 
       pub coded-range : s.cols ≤ 4096 → s.rows ≤ 4096 → RecordRange s.cols s.rows (record_of o vs ls)

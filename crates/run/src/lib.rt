@@ -8,7 +8,7 @@ ghost use Rattle.state.specs.Questions.{ask_run};
 ghost use Rattle.run.specs.Left.{report_of};
 
 use refusal::Refusal;
-use state::{Frame, Lengths, ask_run};
+use state::{Cursor, Frame, Lengths, ask_run};
 
 // What a run did: the accepted calls and the bits that they consumed, as made; then the place, the quantiser and the transcript's fill.
 #[derive(Clone, Copy)]
@@ -34,6 +34,16 @@ impl Report {
             quantiser,
             fill: 0,
             stop: Ok(()),
+        }
+    }
+
+    // Where the run leaves the caller: behind its last accepted call.
+    pub fn cursor(self) -> Cursor
+        ensures { result ≡ record { place = self.place; quantiser = self.quantiser } }
+    {
+        Cursor {
+            place: self.place,
+            quantiser: self.quantiser,
         }
     }
 }

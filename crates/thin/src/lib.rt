@@ -11,16 +11,6 @@ use run::Report;
 use run::run::run;
 use state::{Cursor, Frame};
 
-// Where a run leaves the caller: behind its last accepted call.
-pub fn cursor_of(report: Report) -> Cursor
-    ensures { result ≡ cursor_of report }
-{
-    Cursor {
-        place: report.place,
-        quantiser: report.quantiser,
-    }
-}
-
 // A run from the caller's own place and quantiser, which move on past the accepted calls.
 pub fn run_at(
     y: &mut [u8],
@@ -46,6 +36,6 @@ pub fn run_at(
     let report = run(
         y, cb, cr, mv, marks, transcript, ry, rcb, rcr, bits, list, frame, quantiser, place,
     );
-    *cursor = cursor_of(report);
+    *cursor = report.cursor();
     report
 }

@@ -72,7 +72,7 @@ read_coded-requires c =
 pub put_coded-filled-requires : goal.put_coded-filled-requires
 put_coded-filled-requires c =
     let s = (goal.at.put_coded-filled-requires c).In_ok-head in
-    (head_at (goal.at.put_coded-filled-requires c).In_ok-head, no-skip-at (goal.at.put_coded-filled-requires c).In_ok-head, omega arith, omega arith, omega (arith, laws.room (T s) s.args.call s.args.source.bits.now s.args.cursor.place s.args.transcript.now s.args.fill s.requires.fill_value))
+    (head_at (goal.at.put_coded-filled-requires c).In_ok-head, no-skip-at (goal.at.put_coded-filled-requires c).In_ok-head, omega (arith, laws.room (T s) s.args.call s.args.source.bits.now s.args.cursor.place s.args.transcript.now s.args.fill s.requires.fill_value))
 
 pub apply_coded-requires : goal.apply_coded-requires
 apply_coded-requires c =

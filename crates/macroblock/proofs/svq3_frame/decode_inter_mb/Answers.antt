@@ -2,11 +2,10 @@
 use mathlib.Core.Path.{sym, ap, ◌∙◌}
 use borrow.Author.Rules.{rules}
 use Rattle.picture.specs.InnerLent.{Slices}
-use Rattle.picture.specs.declared.Picture.{Picture}
 use Rattle.state.specs.State.{State}
 use Rattle.macroblock.specs.Entry.{state_of, mb_left, quantiser_by}
 use Rattle.refusal.proofs.Answered.{handed}
-use Rattle.picture.proofs.Lent.{slices-are}
+use Rattle.picture.proofs.Lent.{slices-are, same-slices}
 use Rattle.macroblock.proofs.Laws as laws
 use Rattle.macroblock.proofs.svq3_frame.decode_inter_mb.Goals.{Start}
 use Rattle.macroblock.proofs.svq3_frame.decode_inter_mb.Goals as goal
@@ -22,14 +21,9 @@ pub returns : goal.returns
 returns c =
     let a = c.args in
     let d = c.decode_asked in
-    let same = d.ensures.same_slices in
-    let y = ap (λ (p : Picture). p.y.ghost_name) same in
-    let cb = ap (λ (p : Picture). p.cb.ghost_name) same in
-    let cr = ap (λ (p : Picture). p.cr.ghost_name) same in
-    let mv = ap (λ (p : Picture). p.mv.ghost_name) same in
-    let marks = ap (λ (p : Picture). p.marks.ghost_name) same in
+    let same = same-slices d.ensures.same_slices in
     ap (λ (p : Slices). mb_left d.result (state_of a.frame (quantiser_by a.quantiser d.result) a.ry.now a.rcb.now a.rcr.now p.y p.cb p.cr p.mv p.marks) d.new.transcript)
-    (slices-are (search rules) (search rules) (search rules) (search rules) (search rules))
+    (slices-are (let e = same.y in search rules) (let e = same.cb in search rules) (let e = same.cr in search rules) (let e = same.mv in search rules) (let e = same.marks in search rules))
     ∙ d.ensures.left
 
 pub returns-in_err-ask_call : goal.returns-in_err-ask_call

@@ -3,8 +3,7 @@ use mathlib.Core.Path.{refl, sym, ap, ◌∙◌}
 use borrow.Author.Rules.{rules}
 use Rattle.std.specs.Prelude.{Ok}
 use Rattle.picture.specs.InnerLent.{Slices}
-use Rattle.picture.specs.declared.Picture.{Picture}
-use Rattle.picture.proofs.Lent.{slices-are}
+use Rattle.picture.proofs.Lent.{slices-are, same-slices}
 use Rattle.replay.specs.Replay.{replay_left}
 use Rattle.refusal.proofs.Answered.{handed}
 use Rattle.state.specs.State.{State}
@@ -30,14 +29,9 @@ pub returns : goal.returns
 returns c =
     let a = c.args in
     let d = c.replay_records-quantiser in
-    let same = d.ensures.same_slices in
-    let y = ap (λ (p : Picture). p.y.ghost_name) same in
-    let cb = ap (λ (p : Picture). p.cb.ghost_name) same in
-    let cr = ap (λ (p : Picture). p.cr.ghost_name) same in
-    let mv = ap (λ (p : Picture). p.mv.ghost_name) same in
-    let marks = ap (λ (p : Picture). p.marks.ghost_name) same in
+    let same = same-slices d.ensures.same_slices in
     ap (λ (p : Slices). replay_left (Ok (record { records = c.in_ok-records.records; quantiser = d.result })) (state_of a.frame d.result a.ry.now a.rcb.now a.rcr.now p.y p.cb p.cr p.mv p.marks))
-    (slices-are (search rules) (search rules) (search rules) (search rules) (search rules))
+    (slices-are (let e = same.y in search rules) (let e = same.cb in search rules) (let e = same.cr in search rules) (let e = same.mv in search rules) (let e = same.marks in search rules))
     ∙ all-applied (S (goal.at.returns c).Start) a.bytes.now (sym c.in_ok-ask_replay.was ∙ c.ask_replay.ensures) (sym c.in_ok-records.was ∙ c.check_records.ensures)
     (λ q. state_of a.frame q a.ry.now a.rcb.now a.rcr.now d.new.pic.y.now d.new.pic.cb.now d.new.pic.cr.now d.new.pic.mv.now d.new.pic.marks.now) d.result refl d.ensures.left
 

@@ -3,8 +3,7 @@ use mathlib.Core.Path.{sym, ap, ◌∙◌}
 use borrow.Author.Rules.{rules}
 use Rattle.std.specs.Prelude.{Err}
 use Rattle.picture.specs.InnerLent.{Slices}
-use Rattle.picture.specs.declared.Picture.{Picture}
-use Rattle.picture.proofs.Lent.{slices-are}
+use Rattle.picture.proofs.Lent.{slices-are, same-slices}
 use Rattle.state.specs.State.{State}
 use Rattle.macroblock.specs.Entry.{state_of, state_now}
 use Rattle.run.specs.Left.{Left, run_left}
@@ -32,14 +31,9 @@ pub returns-else-n-eq0 : goal.returns-else-n-eq0
 returns-else-n-eq0 c =
     let a = c.args in
     let d = c.run_calls in
-    let same = d.ensures.same_slices in
-    let y = ap (λ (p : Picture). p.y.ghost_name) same in
-    let cb = ap (λ (p : Picture). p.cb.ghost_name) same in
-    let cr = ap (λ (p : Picture). p.cr.ghost_name) same in
-    let mv = ap (λ (p : Picture). p.mv.ghost_name) same in
-    let marks = ap (λ (p : Picture). p.marks.ghost_name) same in
+    let same = same-slices d.ensures.same_slices in
     ap (λ (p : Slices). run_left d.result (state_of a.frame d.result.quantiser a.ry.now a.rcb.now a.rcr.now p.y p.cb p.cr p.mv p.marks) d.new.transcript)
-    (slices-are (search rules) (search rules) (search rules) (search rules) (search rules))
+    (slices-are (let e = same.y in search rules) (let e = same.cb in search rules) (let e = same.cr in search rules) (let e = same.mv in search rules) (let e = same.marks in search rules))
     ∙ d.ensures.left
     ∙ some-calls (S (goal.at.returns-else-n-eq0 c).Start) c.args.list.now c.args.bits.now c.args.place c.args.transcript.now (sym c.in-Ok.is ∙ c.check_calls.ensures) c.if-n-eq0.false
 
