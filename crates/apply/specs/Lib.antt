@@ -3,5 +3,6 @@ pub mod Blocks
 pub mod Apply
 pub mod InnerApplied
 pub mod InnerCells
+pub mod InnerCoded
 pub mod InnerMoved
 pub mod InnerSquares

@@ -1,93 +1,51 @@
 // A record applied to the planes, the vectors and the marks.
-ghost use Rattle.std.specs.Prelude.{◌≡◌, true, false, ◌<◌, ◌≤◌, length};
+ghost use Rattle.std.specs.Prelude.{◌≡◌, true, false};
 ghost use Rattle.picture.specs.InnerPicture.{Within};
 ghost use Rattle.picture.specs.InnerLent.{held, holding};
 ghost use Rattle.state.specs.InnerSizes.{AllSized, lent_lengths};
-ghost use Rattle.record.specs.InnerRecord.{record_of};
 ghost use Rattle.record.specs.Record.{skip_record};
-ghost use Rattle.record.specs.Range.{RecordRange};
 ghost use Rattle.apply.specs.InnerMoved.{PlanesSized};
 ghost use Rattle.apply.specs.InnerApplied.{applied_slices};
+ghost use Rattle.apply.specs.InnerCoded.{given};
 ghost use Rattle.apply.specs.Apply.{applied_luma, applied_chroma};
 
+use crate::Coded;
 use crate::svq3_frame::{compensate_chroma, compensate_luma};
 use crate::svq3_picture::store_partitions;
 use crate::svq3_recon::{add_chroma, add_luma};
 use picture::{Grid, Picture, Reference};
 use picture::svq3_picture::copy_macroblock_from;
-use record::Head;
-use state::{Call, Macroblock};
 use vectors::svq3_frame::mark_macroblock;
 
 // Compensation, then the residual.
-pub fn apply_luma(
-    pic: &mut [u8],
-    reference: &[u8],
-    vectors: &[i32; 32],
-    levels: &[i32; 392],
-    grid: Grid,
-    head: Head,
-)
-    requires cols_bound { (grid.cols ≤ 4096) × (grid.rows ≤ 4096) × RecordRange grid.cols grid.rows (record_of head vectors.now levels.now) × (0 < head.mode) }
-    requires planes_sized { PlanesSized false grid.cols grid.rows pic reference }
-    ensures { pic.new ≡ applied_luma grid.cols grid.rows reference.now (record_of head vectors.now levels.now) pic.old }
+pub fn apply_luma(pic: &mut [u8], reference: &[u8], coded: Coded)
+    requires { PlanesSized false coded.grid.cols coded.grid.rows pic reference }
+    ensures { pic.new ≡ applied_luma coded.entry.grid.cols coded.entry.grid.rows reference.now (given coded.entry) pic.old }
 {
-    let column = head.column;
-    let row = head.row;
-    let mode = head.mode;
-    let call = Call { column, row, mode };
-    let mb = Macroblock { grid, call };
-    compensate_luma(pic, reference, vectors, mb);
-    add_luma(pic, levels, grid, head);
+    compensate_luma(pic, reference, coded);
+    add_luma(pic, coded);
 }
 
 // The same of both chroma planes.
-pub fn apply_chroma(
-    cb: &mut [u8],
-    cr: &mut [u8],
-    reference: Reference,
-    vectors: &[i32; 32],
-    levels: &[i32; 392],
-    grid: Grid,
-    head: Head,
-)
-    requires cols_bound { (grid.cols ≤ 4096) × (grid.rows ≤ 4096) × RecordRange grid.cols grid.rows (record_of head vectors.now levels.now) × (0 < head.mode) }
-    requires planes_sized { PlanesSized true grid.cols grid.rows cb reference.cb × PlanesSized true grid.cols grid.rows cr reference.cr }
-    ensures cb_after { cb.new ≡ applied_chroma 0 grid.cols grid.rows reference.entry.cb.now (record_of head vectors.now levels.now) cb.old }
-    ensures cr_after { cr.new ≡ applied_chroma 1 grid.cols grid.rows reference.entry.cr.now (record_of head vectors.now levels.now) cr.old }
+pub fn apply_chroma(cb: &mut [u8], cr: &mut [u8], reference: Reference, coded: Coded)
+    requires { PlanesSized true coded.grid.cols coded.grid.rows cb reference.cb × PlanesSized true coded.grid.cols coded.grid.rows cr reference.cr }
+    ensures cb_after { cb.new ≡ applied_chroma 0 coded.entry.grid.cols coded.entry.grid.rows reference.entry.cb.now (given coded.entry) cb.old }
+    ensures cr_after { cr.new ≡ applied_chroma 1 coded.entry.grid.cols coded.entry.grid.rows reference.entry.cr.now (given coded.entry) cr.old }
 {
-    let column = head.column;
-    let row = head.row;
-    let mode = head.mode;
-    let call = Call { column, row, mode };
-    let mb = Macroblock { grid, call };
-    compensate_chroma(cb, cr, reference, vectors, mb);
-    add_chroma(cb, levels, grid, head, 0);
-    add_chroma(cr, levels, grid, head, 1);
+    compensate_chroma(cb, cr, reference, coded);
+    add_chroma(cb, coded, 0);
+    add_chroma(cr, coded, 1);
 }
 
 // A record that is no skip: the three planes, the vectors and the marks.
-pub fn apply_coded(
-    pic: &mut Picture,
-    reference: Reference,
-    vectors: &[i32; 32],
-    levels: &[i32; 392],
-    grid: Grid,
-    head: Head,
-)
-    requires cols_bound { (grid.cols ≤ 4096) × (grid.rows ≤ 4096) × RecordRange grid.cols grid.rows (record_of head vectors.now levels.now) × (0 < head.mode) }
-    requires all_sized { AllSized grid.cols grid.rows (lent_lengths (held pic.old) reference) }
-    ensures applied { pic.new ≡ holding pic.old (applied_slices grid.cols grid.rows reference.entry (record_of head vectors.now levels.now) (held pic.old)) }
-    ensures sized { AllSized grid.cols grid.rows (lent_lengths (held pic.new) reference.entry) }
+pub fn apply_coded(pic: &mut Picture, reference: Reference, coded: Coded)
+    requires { AllSized coded.grid.cols coded.grid.rows (lent_lengths (held pic.old) reference) }
+    ensures applied { pic.new ≡ holding pic.old (applied_slices coded.entry.grid.cols coded.entry.grid.rows reference.entry (given coded.entry) (held pic.old)) }
+    ensures sized { AllSized coded.entry.grid.cols coded.entry.grid.rows (lent_lengths (held pic.new) reference.entry) }
 {
-    apply_luma(pic.y, reference.y, vectors, levels, grid, head);
-    apply_chroma(pic.cb, pic.cr, reference, vectors, levels, grid, head);
-    let column = head.column;
-    let row = head.row;
-    let mode = head.mode;
-    let call = Call { column, row, mode };
-    let mb = Macroblock { grid, call };
-    store_partitions(pic.mv, pic.marks, vectors, mb);
+    apply_luma(pic.y, reference.y, coded);
+    apply_chroma(pic.cb, pic.cr, reference, coded);
+    store_partitions(pic.mv, pic.marks, coded);
 }
 
 // A skip: its three blocks are copied.

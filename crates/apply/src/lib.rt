@@ -1,6 +1,26 @@
 #![tactic(auto)]
 // What a record does to the planes, the vectors and the marks.
+ghost use Rattle.std.specs.Prelude.{◌<◌, ◌≤◌};
+ghost use Rattle.record.specs.InnerRecord.{record_of};
+ghost use Rattle.record.specs.Range.{RecordRange};
+
 pub mod applied;
 pub mod svq3_frame;
 pub mod svq3_picture;
 pub mod svq3_recon;
+
+use picture::Grid;
+use record::Head;
+
+// A record that is no skip, in range for a picture of that grid.
+#[derive(Clone, Copy)]
+pub struct Coded<'a> {
+    pub grid: Grid,
+    pub head: Head,
+    pub vectors: &'a [i32; 32],
+    pub levels: &'a [i32; 392],
+    pub ghost wide: { grid.cols ≤ 4096 },
+    pub ghost high: { grid.rows ≤ 4096 },
+    pub ghost range: { RecordRange grid.cols grid.rows (record_of head vectors.now levels.now) },
+    pub ghost some: { 0 < head.mode },
+}

@@ -2,43 +2,40 @@
 ghost use Rattle.std.specs.Prelude.{◌≡◌, false, ℕ, ◌+◌, ◌*◌, ◌<◌, ◌≤◌, pos, length, get_or};
 ghost use Rattle.transform.specs.InnerFour.{SquareIn};
 ghost use Rattle.picture.specs.Picture.{luma_length, chroma_length};
-ghost use Rattle.picture.specs.InnerPicture.{Within};
-ghost use Rattle.levels.specs.Items.{ListsRange};
-ghost use Rattle.record.specs.Range.{ItemRange};
 ghost use Rattle.apply.specs.Blocks.{luma_up_to, chroma_added};
 ghost use Rattle.apply.specs.InnerSquares.{quadrant_added, square_added};
 
+use crate::Coded;
 use levels::svq3_cbp::{chroma_class, luma_quadrant_coded};
-use picture::Grid;
-use record::Head;
 use transform::{Quantiser, Square};
 use transform::four::{add_chroma_blocks, add_chroma_dc_blocks, add_luma_quadrant};
 use transform::svq3_dequant::dequantize_chroma_dc_levels;
 
 // Luma quadrant q, where it is coded.
-fn add_quadrant(pic: &mut [u8], levels: &[i32; 392], grid: Grid, head: Head, q: usize)
-    requires within { Within grid.cols grid.rows head.column head.row × (q < 4) }
-    requires pic_len { (length pic.old ≡ luma_length grid.cols grid.rows) × (head.pattern ≤ 47) × (head.quantiser ≤ 31) }
-    ensures { pic.new ≡ quadrant_added q grid.cols head levels.now pic.old }
+fn add_quadrant(pic: &mut [u8], coded: Coded, q: usize)
+    requires quadrant { q < 4 }
+    requires pic_len { length pic.old ≡ luma_length coded.grid.cols coded.grid.rows }
+    ensures { pic.new ≡ quadrant_added q coded.entry.grid.cols coded.entry.head coded.entry.levels.now pic.old }
 {
+    let head = coded.head;
     if luma_quadrant_coded(head.pattern as u8, q as u32) {
         let s = Square {
-            stride: 16 * grid.cols,
+            stride: 16 * coded.grid.cols,
             x: 16 * (head.column as usize) + 8 * (q % 2),
             y: 16 * (head.row as usize) + 8 * (q / 2),
         };
+        let levels = coded.levels;
         let number = head.quantiser;
         add_luma_quadrant(pic, s, &levels[64 * q..], Quantiser { number });
     }
 }
 
-pub fn add_luma(pic: &mut [u8], levels: &[i32; 392], grid: Grid, head: Head)
-    requires within { Within grid.cols grid.rows head.column head.row }
-    requires pic_len { (length pic.old ≡ luma_length grid.cols grid.rows) × (head.pattern ≤ 47) × (head.quantiser ≤ 31) }
-    ensures { pic.new ≡ luma_up_to 16 grid.cols head levels.now pic.old }
+pub(crate) fn add_luma(pic: &mut [u8], coded: Coded)
+    requires { length pic.old ≡ luma_length coded.grid.cols coded.grid.rows }
+    ensures { pic.new ≡ luma_up_to 16 coded.entry.grid.cols coded.entry.head coded.entry.levels.now pic.old }
 {
     for q in 0..4 {
-        add_quadrant(pic, levels, grid, head, q);
+        add_quadrant(pic, coded, q);
     }
 }
 
@@ -56,19 +53,19 @@ fn add_square(pic: &mut [u8], s: Square, levels: &[i32; 392], plane: usize, q: Q
     }
 }
 
-pub fn add_chroma(pic: &mut [u8], levels: &[i32; 392], grid: Grid, head: Head, plane: usize)
-    requires within { Within grid.cols grid.rows head.column head.row × (plane < 2) }
-    requires pic_len { (length pic.old ≡ chroma_length grid.cols grid.rows) × (head.pattern ≤ 47) × (head.quantiser ≤ 31) × ListsRange ItemRange head.pattern levels.now }
-    ensures { pic.new ≡ chroma_added plane grid.cols head levels.now pic.old }
+pub(crate) fn add_chroma(pic: &mut [u8], coded: Coded, plane: usize)
+    requires { (length pic.old ≡ chroma_length coded.grid.cols coded.grid.rows) × (plane < 2) }
+    ensures { pic.new ≡ chroma_added plane coded.entry.grid.cols coded.entry.head coded.entry.levels.now pic.old }
 {
+    let head = coded.head;
     let class = chroma_class(head.pattern as u8);
     if 0 < class {
         let s = Square {
-            stride: 8 * grid.cols,
+            stride: 8 * coded.grid.cols,
             x: 8 * (head.column as usize),
             y: 8 * (head.row as usize),
         };
         let number = head.quantiser;
-        add_square(pic, s, levels, plane, Quantiser { number }, class == 2);
+        add_square(pic, s, coded.levels, plane, Quantiser { number }, class == 2);
     }
 }

@@ -7,6 +7,7 @@ ghost use Rattle.macroblock.specs.Entry.{state_before, state_after, quantiser_by
 ghost use Rattle.macroblock.specs.InnerSource.{state_of_source};
 
 use crate::{MbReport, Source};
+use apply::Coded;
 use apply::applied::{apply_coded, apply_skip};
 use bits::Bits;
 use picture::{Cells, Picture, Reference};
@@ -40,7 +41,13 @@ fn decode_coded(
     let mb = Macroblock { grid, call };
     let (head, next) = read_coded(&mut vectors, &mut levels, cells, bits, mb, flags, cursor)?;
     let filled = put_coded(transcript, &vectors, &levels, fill, head);
-    apply_coded(pic, source.reference, &vectors, &levels, grid, head);
+    let coded = Coded {
+        grid,
+        head,
+        vectors: &vectors,
+        levels: &levels,
+    };
+    apply_coded(pic, source.reference, coded);
     Ok(MbReport {
         place: next,
         quantiser: head.quantiser,

@@ -7,6 +7,7 @@ ghost use Rattle.picture.specs.InnerLent.{held, holding};
 ghost use Rattle.macroblock.specs.InnerSource.{state_by};
 ghost use Rattle.replay.specs.InnerStepped.{Stepped};
 
+use apply::Coded;
 use apply::applied::{apply_coded, apply_skip};
 use picture::{Picture, Reference};
 use record::Head;
@@ -39,12 +40,17 @@ fn replay_coded(
 {
     let mut vectors = [0i32; 32];
     let mut levels = [0i32; 392];
-    let Ok((coded, next)) = parse_motion(&mut vectors, &mut levels, bytes, before.next, head)
-    else {
+    let Ok((head, next)) = parse_motion(&mut vectors, &mut levels, bytes, before.next, head) else {
         return before;
     };
-    apply_coded(pic, reference, &vectors, &levels, frame.grid, coded);
-    let quantiser = coded.quantiser;
+    let coded = Coded {
+        grid: frame.grid,
+        head,
+        vectors: &vectors,
+        levels: &levels,
+    };
+    apply_coded(pic, reference, coded);
+    let quantiser = head.quantiser;
     Step { quantiser, next }
 }
 

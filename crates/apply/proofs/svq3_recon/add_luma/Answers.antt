@@ -7,18 +7,18 @@ use Rattle.apply.proofs.Residuals.{one-quadrant, no-quadrant}
 use Rattle.apply.proofs.svq3_recon.add_luma.Goals as goal
 
 pub loop-q-init : goal.loop-q-init
-loop-q-init c = no-quadrant c.args.grid.cols c.args.head c.args.levels.now c.args.pic.now
+loop-q-init c = no-quadrant c.args.coded.grid.cols c.args.coded.head c.args.coded.levels.now c.args.pic.now
 
 pub add_quadrant-requires : goal.add_quadrant-requires
-add_quadrant-requires c = record { within = (c.requires.within, c.loop-q-test.true); pic_len = (c.loop-q.auto.pic ∙ c.requires.pic_len.0, c.requires.pic_len.1, c.requires.pic_len.2) }
+add_quadrant-requires c = record { quadrant = c.loop-q-test.true; pic_len = c.loop-q.auto.pic ∙ c.requires }
 
 pub loop-q-preserved : goal.loop-q-preserved
 loop-q-preserved c =
     let a = c.args in
-    one-quadrant a.grid.cols a.head a.levels.now a.pic.now c.loop-q.q c.loop-q-test.true c.loop-q.invariant c.add_quadrant.ensures
+    one-quadrant a.coded.grid.cols a.coded.head a.coded.levels.now a.pic.now c.loop-q.q c.loop-q-test.true c.loop-q.invariant c.add_quadrant.ensures
 
 pub returns : goal.returns
 returns c =
     let a = c.args in
     let e : 4 * c.loop-q.q ≡ 16 = omega arith in
-    c.loop-q.invariant ∙ ap (λ (n : ℕ). luma_up_to n a.grid.cols a.head a.levels.now a.pic.now) e
+    c.loop-q.invariant ∙ ap (λ (n : ℕ). luma_up_to n a.coded.grid.cols a.coded.head a.coded.levels.now a.pic.now) e

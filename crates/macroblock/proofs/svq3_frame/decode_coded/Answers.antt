@@ -74,11 +74,14 @@ put_coded-filled-requires c =
     let s = (goal.at.put_coded-filled-requires c).In_ok-head in
     (head_at (goal.at.put_coded-filled-requires c).In_ok-head, no-skip-at (goal.at.put_coded-filled-requires c).In_ok-head, omega (arith, laws.room (T s) s.args.call s.args.source.bits.now s.args.cursor.place s.args.transcript.now s.args.fill s.requires.fill_value))
 
+pub invariant_of-coded : goal.invariant_of-coded
+invariant_of-coded c =
+    let f = facts_at (goal.at.invariant_of-coded c).Start in
+    let k = (goal.at.invariant_of-coded c).In_ok-head in
+    record { wide = f.in-grid.most-cols; high = f.in-grid.most-rows; range = range_at k; some = no-skip-at k }
+
 pub apply_coded-requires : goal.apply_coded-requires
-apply_coded-requires c =
-    let s = (goal.at.apply_coded-requires c).In_ok-head in
-    let f = facts_at (goal.at.apply_coded-requires c).Start in
-    record { cols_bound = (f.in-grid.most-cols, f.in-grid.most-rows, range_at (goal.at.apply_coded-requires c).In_ok-head, no-skip-at (goal.at.apply_coded-requires c).In_ok-head); all_sized = f.sized }
+apply_coded-requires c = let f = facts_at (goal.at.apply_coded-requires c).Start in f.sized
 
 pub returns-clause-same_slices : goal.returns-clause-same_slices
 returns-clause-same_slices c = stays c.args.pic.now c.apply_coded.ensures.applied

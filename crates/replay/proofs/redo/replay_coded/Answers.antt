@@ -28,24 +28,26 @@ returns-in_default c =
       sized = c.requires.all_sized;
     }
 
-pub apply_coded-requires : goal.apply_coded-requires
-apply_coded-requires c =
+pub invariant_of-coded : goal.invariant_of-coded
+invariant_of-coded c =
     let m = c.parse_motion in
-    let is = c.in-Ok.is in record {
-      cols_bound = (
-        c.requires.cols_bound.0,
-        c.requires.cols_bound.1,
-        coded-range (S (goal.at.apply_coded-requires c).Start) c.args.bytes.now c.args.at c.args.head c.args.before.next c.requires.cols_bound.2 _ _ _ m.ensures _ _ is c.requires.cols_bound.0 c.requires.cols_bound.1,
-        no-skip (S (goal.at.apply_coded-requires c).Start) c.args.bytes.now c.args.at c.args.head c.args.before.next c.requires.cols_bound.2 _ _ _ m.ensures _ _ is,
-      );
-      all_sized = c.requires.all_sized;
+    let is = c.in-Ok.is in
+    let s = S (goal.at.invariant_of-coded c).Start in
+    record {
+      wide = c.requires.cols_bound.0;
+      high = c.requires.cols_bound.1;
+      range = coded-range s c.args.bytes.now c.args.at c.args.head c.args.before.next c.requires.cols_bound.2 _ _ _ m.ensures _ _ is c.requires.cols_bound.0 c.requires.cols_bound.1;
+      some = no-skip s c.args.bytes.now c.args.at c.args.head c.args.before.next c.requires.cols_bound.2 _ _ _ m.ensures _ _ is;
     }
+
+pub apply_coded-requires : goal.apply_coded-requires
+apply_coded-requires c = c.requires.all_sized
 
 pub returns : goal.returns
 returns c =
     let m = c.parse_motion in
     let e = c.apply_coded.ensures.applied in
-    let coded = c.in-Ok.coded in
+    let coded = c.in-Ok.head in
     let is = c.in-Ok.is in
     let s = S (goal.at.returns c).Start in
     record {
