@@ -1,5 +1,5 @@
 // The (level, run) code books, and the lists of levels that their codes make. The books and lists are those of specs/Book.antt and specs/Levels.antt.
-ghost use Rattle.std.specs.Prelude.{◌≡◌, ◌+◌, ◌≤◌, ◌<◌, ◌^◌, length, get_or, drop, unwrap_or};
+ghost use Rattle.std.specs.Prelude.{◌≡◌, ◌+◌, ◌≤◌, ◌<◌, ◌^◌, length, get_or, drop};
 ghost use Rattle.std.proofs.lemmas.List.Edits.{sets};
 ghost use Rattle.refusal.specs.Answered.{answered};
 ghost use Rattle.bits.specs.Bits.{bit_list};
@@ -100,9 +100,9 @@ fn read_level(
 }
 
 // What the look-up of a book says of seven bits, the first of them 0.
-fn entry_of(book: ResidualBook, bits: u64) -> Option<u32>
+fn entry_of(book: ResidualBook, bits: u64) -> u32
     requires { bits < 64 }
-    ensures { unwrap_or result 255 ≡ get_or (entries book) bits 0 }
+    ensures { result ≡ get_or (entries book) bits 0 }
 {
     match book {
         ResidualBook::NormalScan => normal_scan(bits),
@@ -144,15 +144,14 @@ fn next_level(bits: Bits, at: usize, book: ResidualBook, window: Window) -> Resu
     let word = window.word;
     let known = window.known;
     if word < 0x8000_0000_0000_0000 {
-        if let Some(entry) = entry_of(book, word >> 57) {
-            let size = entry % 256;
-            if size <= known {
-                return Ok(Taken {
-                    said: Some((entry_level(entry), entry / 256 % 256)),
-                    next: at + size as usize,
-                    window: pass(window, size),
-                });
-            }
+        let entry = entry_of(book, word >> 57);
+        let size = entry % 256;
+        if size <= known {
+            return Ok(Taken {
+                said: Some((entry_level(entry), entry / 256 % 256)),
+                next: at + size as usize,
+                window: pass(window, size),
+            });
         }
     } else {
         if 0 < known {

@@ -16,15 +16,14 @@ use Rattle.levels.proofs.svq3_coeff.next_level.Goals.{Then-known-gt0, Then-size-
 use Rattle.levels.proofs.svq3_coeff.next_level.Goals as goal
 
 -- the code's bits are there
-there : (c : Then-size-known) → c.args.at + entry_size c.in-Some.entry ≤ 8 * length c.args.bits.bytes.now
+there : (c : Then-size-known) → c.args.at + entry_size c.entry_of-entry.result ≤ 8 * length c.args.bits.bytes.now
 there c =
     let a = c.args in
     let b = bit_list a.bits.bytes.now in
     let w = a.window in
-    let e = c.in-Some.entry in
-    let is = rw c.in-Some.is at c.entry_of.ensures in
+    let e = c.entry_of-entry in
     let low = c.if-word-lt9223372036854775808.true in
-    inside a.book a.bits.bytes.now a.at _ _ (level-found a.book b a.at w.word w.known c.requires e low is c.if-size-known.true) (size-some a.book b a.at w.word w.known c.requires e low is c.if-size-known.true)
+    inside a.book a.bits.bytes.now a.at _ _ (level-found a.book b a.at w.word w.known c.requires e.result low e.ensures c.if-size-known.true) (size-some a.book b a.at w.word w.known c.requires e.result low e.ensures c.if-size-known.true)
 
 -- the code 0
 ended : (c : Then-known-gt0) → level_run c.args.book (drop c.args.at (bit_list c.args.bits.bytes.now)) ≡ got None 1
@@ -35,19 +34,17 @@ ended c =
 pub pass-requires : goal.pass-requires
 pass-requires c =
     let a = c.args in
-    let e = c.in-Some.entry in
-    let is = rw c.in-Some.is at c.entry_of.ensures in
+    let e = c.entry_of-entry in
     let t = c.if-size-known.true in
-    (t, omega (arith, size_few a.book (bit_list a.bits.bytes.now) a.at a.window.word a.window.known c.requires e c.if-word-lt9223372036854775808.true is t))
+    (t, omega (arith, size_few a.book (bit_list a.bits.bytes.now) a.at a.window.word a.window.known c.requires e.result c.if-word-lt9223372036854775808.true e.ensures t))
 
 pub returns-then-size-known : goal.returns-then-size-known
 returns-then-size-known c =
     let a = c.args in
     let b = bit_list a.bits.bytes.now in
-    let e = c.in-Some.entry in
-    let is = rw c.in-Some.is at c.entry_of.ensures in
+    let e = c.entry_of-entry in
     let l = c.entry_level in
-    entry-stepped a.book b a.at a.window.word a.window.known c.requires e c.if-word-lt9223372036854775808.true is c.if-size-known.true _ _ refl refl (to_z-of_z {w = w32} (record { sfits = l.type_inv }) ∙ l.ensures) (c.pass.ensures (drop a.at b) c.requires)
+    entry-stepped a.book b a.at a.window.word a.window.known c.requires e.result c.if-word-lt9223372036854775808.true e.ensures c.if-size-known.true _ _ refl refl (to_z-of_z {w = w32} (record { sfits = l.type_inv }) ∙ l.ensures) (c.pass.ensures (drop a.at b) c.requires)
 
 pub returns-then-known-gt0 : goal.returns-then-known-gt0
 returns-then-known-gt0 c =
