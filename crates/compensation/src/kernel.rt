@@ -48,12 +48,12 @@ fn mix_row(dst: &mut [u8], src: &[u8], to: usize, from: usize, n: usize, mix: Mi
     requires { (to + n ≤ length dst.old) × (from + n + (mix.beside + mix.second) ≤ length src.now) }
     ensures { dst.new ≡ row dst.old to (mixed_row mix src.now from) n }
 {
-    for c in 0..n {
+    for (c, sample) in dst[to..to + n].iter_mut().enumerate() {
         let i = from + c;
         let beside = src[i + mix.beside];
         let second = src[i + mix.second];
         let last = src[i + (mix.beside + mix.second)];
-        dst[to + c] = mix.sample(src[i], beside, second, last);
+        *sample = mix.sample(src[i], beside, second, last);
     }
 }
 

@@ -5,6 +5,7 @@ ghost use Rattle.compensation.specs.InnerKernel.{origin_of, near, near_from, pic
 
 use crate::plane::Plane;
 use picture::rows::store_row;
+use std::array;
 
 // The column, or row, of a block's first tap, held and counted from -17.
 pub fn origin(first: i64, n: usize) -> usize
@@ -23,16 +24,12 @@ fn near_of(n: usize, i: usize) -> usize
     i.saturating_sub(17).min(n - 1)
 }
 
-// The columns of the taps of a row: they are the same in every row of a block. By a loop, as in `tiles::mix_lanes`.
+// The columns of the taps of a row: they are the same in every row of a block.
 fn columns_of(width: usize, bx: usize) -> [usize; 17]
     requires { (0 < width) × (bx ≤ 131072) }
     ensures { result ≡ row (replicate 17 0) 0 (near_from width bx) 17 }
 {
-    let mut t = [0usize; 17];
-    for c in 0..17 {
-        t[c] = near_of(width, bx + c);
-    }
-    t
+    array::from_fn(|c| near_of(width, bx + c))
 }
 
 fn gather_row(window: &mut [u8], plane: &[u8], columns: &[usize; 17], at: usize, line: usize)

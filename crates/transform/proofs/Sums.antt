@@ -13,7 +13,8 @@ use mir.Val.{SFits}
 use mir.Facts.{to_z-of_z}
 use Rattle.ints.proofs.Fits.{read, Within, within-fits, within-floor}
 use Rattle.ints.proofs.Laws.{sat-same}
-use Rattle.ints.proofs.Linear.{up, down, z-rules, add-z, diff-z, times-z, mag-z, abs-z}
+use Rattle.std.proofs.lemmas.Int.{ints}
+use Rattle.ints.proofs.Linear.{up, down, add-z, diff-z, times-z, mag-z, abs-z}
 use Rattle.transform.specs.Residual.{sum_of, weighed, rounded}
 use Rattle.transform.proofs.Laws.{below-4}
 use Rattle.transform.specs.InnerPasses.{Small, sums_of}
@@ -107,16 +108,16 @@ odd' b d = pos 7 *ℤ b -ℤ pos 17 *ℤ d
 
 module _ (a b c d : ℤ) where
   parts-0 : even a c +ℤ odd b d ≡ sum_of 0 a b c d
-  parts-0 = omega (arith, z-rules, sum-z-0 a b c d, add-z (even a c) (odd b d), times-z 13 (a +ℤ c), add-z a c, add-z (pos 17 *ℤ b) (pos 7 *ℤ d), times-z 17 b, times-z 7 d)
+  parts-0 = omega (arith, ints, sum-z-0 a b c d, add-z (even a c) (odd b d), times-z 13 (a +ℤ c), add-z a c, add-z (pos 17 *ℤ b) (pos 7 *ℤ d), times-z 17 b, times-z 7 d)
 
   parts-1 : even' a c +ℤ odd' b d ≡ sum_of 1 a b c d
-  parts-1 = omega (arith, z-rules, sum-z-1 a b c d, add-z (even' a c) (odd' b d), times-z 13 (a -ℤ c), diff-z a c, diff-z (pos 7 *ℤ b) (pos 17 *ℤ d), times-z 7 b, times-z 17 d)
+  parts-1 = omega (arith, ints, sum-z-1 a b c d, add-z (even' a c) (odd' b d), times-z 13 (a -ℤ c), diff-z a c, diff-z (pos 7 *ℤ b) (pos 17 *ℤ d), times-z 7 b, times-z 17 d)
 
   parts-2 : even' a c -ℤ odd' b d ≡ sum_of 2 a b c d
-  parts-2 = omega (arith, z-rules, sum-z-2 a b c d, diff-z (even' a c) (odd' b d), times-z 13 (a -ℤ c), diff-z a c, diff-z (pos 7 *ℤ b) (pos 17 *ℤ d), times-z 7 b, times-z 17 d)
+  parts-2 = omega (arith, ints, sum-z-2 a b c d, diff-z (even' a c) (odd' b d), times-z 13 (a -ℤ c), diff-z a c, diff-z (pos 7 *ℤ b) (pos 17 *ℤ d), times-z 7 b, times-z 17 d)
 
   parts-3 : even a c -ℤ odd b d ≡ sum_of 3 a b c d
-  parts-3 = omega (arith, z-rules, sum-z-3 a b c d, diff-z (even a c) (odd b d), times-z 13 (a +ℤ c), add-z a c, add-z (pos 17 *ℤ b) (pos 7 *ℤ d), times-z 17 b, times-z 7 d)
+  parts-3 = omega (arith, ints, sum-z-3 a b c d, diff-z (even a c) (odd b d), times-z 13 (a +ℤ c), add-z a c, add-z (pos 17 *ℤ b) (pos 7 *ℤ d), times-z 17 b, times-z 7 d)
 
 -- what is made of the parts of sum k fits 32 bits, and read back it is that sum
 abbrev pub parts : ℕ → ℤ → ℤ → ℤ → ℤ → ℤ

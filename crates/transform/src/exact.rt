@@ -75,8 +75,8 @@ pub fn rows(levels: &[i32], scale: Scale) -> [[i32; 4]; 16]
     ensures { Rows scale.by levels.now 16 result }
 {
     let mut y = [[0i32; 4]; 16];
-    for i in 0..16 {
-        y[i] = row(&levels[4 * i..], scale);
+    for (i, sums) in y.iter_mut().enumerate() {
+        *sums = row(&levels[4 * i..], scale);
     }
     y
 }

@@ -24,8 +24,8 @@ fn add_row(plane: &mut [u8], at: usize, residual: &[i16; 16], from: usize)
     requires { (at + 4 ≤ length plane.old) × (from + 4 ≤ 16) × Short residual.now }
     ensures { plane.new ≡ row plane.old at (reconstructed_at plane.old at residual.now from) 4 }
 {
-    for c in 0..4 {
-        plane[at + c] = reconstruct_sample(plane[at + c], residual[from + c]);
+    for (c, sample) in plane[at..at + 4].iter_mut().enumerate() {
+        *sample = reconstruct_sample(*sample, residual[from + c]);
     }
 }
 

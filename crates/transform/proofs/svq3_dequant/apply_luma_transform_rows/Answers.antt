@@ -2,7 +2,7 @@
 use Rattle.std.proofs.Common.{◌/◌, ◌%◌, pos, rules}
 use Rattle.transform.specs.Residual.{placed, listed, rows_of}
 use Rattle.transform.specs.InnerArrays.{turned, weighed_row}
-use Rattle.transform.proofs.Made.{made-by}
+use Rattle.ints.proofs.Made.{made-by}
 use Rattle.transform.proofs.svq3_dequant.apply_luma_transform_rows.Goals as goal
 
 pub returns : goal.returns
