@@ -23,17 +23,17 @@ module _ {v z : ℤ} (k : ℕ) (enough : 2147483648 ≤ 6 * k) (small : SFits w3
   raised : pos n ≡ pos (6 * k) +ℤ v
   raised =
       let e : read w64 z ≡ pos (6 * k) +ℤ v = to_z-of_z fits ∙ is ∙ +ℤ_comm v (pos (6 * k)) in
-      pos-nat_abs (read w64 z) (omega (arith, ints, e, add-z (pos (6 * k)) v, mag-z v, small.sfits, mag-z (read w64 z))) ∙ e
+      pos-nat_abs (read w64 z) (omega (arith, ints, e, small.sfits)) ∙ e
 
   pub raised-small : n < 9223372036854775808
-  raised-small = omega (arith, ints, is ∙ +ℤ_comm v (pos (6 * k)) ∙ sym raised, mag-z z, fits.sfits)
+  raised-small = omega (arith, ints, is ∙ +ℤ_comm v (pos (6 * k)) ∙ sym raised, fits.sfits)
 
   pub raised-whole : to_z w64 (n / 6) -ℤ pos k ≡ floor_z v 6
   unfolding floor_z
   raised-whole =
       let p : to_z w64 (n / 6) ≡ pos (n / 6) = to_z_pos w64 (omega (arith, raised-small)) in
       let e : pos (n / 6) ≡ pos k +ℤ floor_z v 6 = ap (λ x. floor_z x 6) raised ∙ (floor-shift 6 (pos k) v (omega arith)).0 in
-      ap (λ x. x -ℤ pos k) p ∙ omega (arith, ints, e, add-z (pos k) (floor_z v 6), diff-z (pos (n / 6)) (pos k))
+      ap (λ x. x -ℤ pos k) p ∙ omega (arith, ints, e)
 
   pub raised-phase : n % 6 ≡ mod_z v 6
   unfolding mod_z

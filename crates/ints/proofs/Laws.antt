@@ -29,10 +29,10 @@ module _ (lo hi z : ℤ) (h : lt_z hi lo ≡ false) where
 
 -- ---- held in i32
 pub sat-fits : (z : ℤ) → SFits w32 (sat_z z)
-sat-fits z = record { sfits = omega (arith, sat-z z, mag-z (sat_z z)) }
+sat-fits z = record { sfits = omega (arith, ints, sat-z z, mag-z z) }
 
 pub sat-same : {z : ℤ} → SFits w32 z → sat_z z ≡ z
-sat-same {z} h = omega (arith, ints, sat-z z, mag-z z, h.sfits)
+sat-same {z} h = omega (arith, ints, sat-z z, h.sfits)
 
 -- z leaves i32 exactly when it has to be held
 or_no : (s t : Bool) → (s || t) ≡ false → (s ≡ false) × (t ≡ false)
@@ -46,8 +46,8 @@ over_no z e = let k = or_no (lt_z z least_i32) (lt_z most_i32 z) e in record { s
 pub no-over : {z : ℤ} → SFits w32 z → over_z z ≡ false
 unfolding over_z
 no-over {z} h =
-    let e : lt_z z least_i32 ≡ false = sym (omega (arith, ints, mag-z z, h.sfits)) in
-    let f : lt_z most_i32 z ≡ false = sym (omega (arith, ints, mag-z z, h.sfits)) in
+    let e : lt_z z least_i32 ≡ false = sym (omega (arith, ints, h.sfits)) in
+    let f : lt_z most_i32 z ≡ false = sym (omega (arith, ints, h.sfits)) in
     rw (e, f) refl
 
 pub over-sat : (z : ℤ) → (over_z z ≡ false) ↔ (sat_z z ≡ z)
@@ -72,7 +72,7 @@ times-add k a b =
 
 -- ---- rounded down
 floor-mod : (k : ℕ) (z : ℤ) → 0 < k → z ≡ pos k *ℤ floor_z z k +ℤ pos (mod_z z k)
-floor-mod k z h = omega (arith, ints, floor-z k z h, add-z (pos k *ℤ floor_z z k) (pos (mod_z z k)), times-z k (floor_z z k))
+floor-mod k z h = omega (arith, ints, floor-z k z h, times-z k (floor_z z k))
 
 mag-floor : (z : ℤ) (k : ℕ) → mag (floor_z z k) ≤ mag z
 unfolding floor_z
@@ -92,14 +92,14 @@ quotient k n r h = (mul-add-div (omega arith) n r ∙ omega (arith, div-eq_of_lt
 floor-unique : (k : ℕ) (z a : ℤ) (r : ℕ) → r < k → z ≡ pos k *ℤ a +ℤ pos r → (floor_z z k ≡ a) × (mod_z z k ≡ r)
 unfolding floor_z mod_z
 floor-unique k (pos m) (pos n) r h e =
-    let s : m ≡ k * n + r = omega (arith, ints, e, add-z (pos k *ℤ pos n) (pos r), times-z k (pos n)) in
+    let s : m ≡ k * n + r = omega (arith, ints, e, times-z k (pos n)) in
     (ap (λ x. pos (x / k)) s ∙ ap pos (quotient k n r h).0, ap (λ x. x % k) s ∙ (quotient k n r h).1)
 floor-unique k (pos m) (negsuc n) r h e =
-    absurd (omega (arith, ints, e, add-z (pos k *ℤ negsuc n) (pos r), times-z k (negsuc n), mul-suc k n))
+    absurd (omega (arith, ints, e, times-z k (negsuc n), mul-suc k n))
 floor-unique k (negsuc m) (pos n) r h e =
-    absurd (omega (arith, ints, e, add-z (pos k *ℤ pos n) (pos r), times-z k (pos n)))
+    absurd (omega (arith, ints, e, times-z k (pos n)))
 floor-unique k (negsuc m) (negsuc n) r h e =
-    let s : m ≡ k * n + (k - suc r) = omega (arith, ints, e, add-z (pos k *ℤ negsuc n) (pos r), times-z k (negsuc n), mul-suc k n) in
+    let s : m ≡ k * n + (k - suc r) = omega (arith, ints, e, times-z k (negsuc n), mul-suc k n) in
     let q = quotient k n (k - suc r) (omega arith) in
     (ap (λ x. negsuc (x / k)) s ∙ ap negsuc q.0, ap (λ x. k - suc (x % k)) s ∙ omega (arith, q.1))
 
@@ -109,7 +109,7 @@ floor-shift k a z h = floor-unique k (pos k *ℤ a +ℤ z) (a +ℤ floor_z z k) 
 
 -- ---- a sum taken back
 pub add-diff : (a d b : ℤ) → a +ℤ d ≡ b → d ≡ b -ℤ a
-add-diff a d b e = omega (arith, ints, e, add-z a d, diff-z b a)
+add-diff a d b e = omega (arith, ints, e)
 
 -- ---- what a call of `hold`, `sat_add` or `sat_mul` gave, field by field: `value_of _ c.sat_add.ensures`
 value_of : {r : Held} (z : ℤ) → r ≡ held_z z → r.value ≡ sat_z z

@@ -1,8 +1,7 @@
--- ℤ for `omega`, which reads naturals only: z is `up z - down z`, of which one is 0, and an order or an equation of ℤ is one of sums of them. In a proof:
---     omega (arith, ints, add-z a b, times-z 6 c, ..)
--- `ints` reads what is known and the goal: `x ≡ y`, `lt_z x y ≡ true` or `false`, `le_z` alike, `T (non_neg x)`. Beside it stands a law for each sum, difference, multiple, minimum ..
--- that occurs, applied to its parts: `add-z`, `diff-z`, `neg-z`, `times-z` (k * x) and `scaled-z` (x * k), `min-z`, `max-z`, `clamp-z`, `sat-z`, `clip1-z`, `floor-z` and `quot-z` (k a numeral),
--- for a range `mag-z z`, and for a magnitude `abs-z z`.
+-- What the library's `ints` leaves for `omega` over ℤ, where z is `up z - down z`. In a proof:
+--     omega (arith, ints, min-z a b, sat-z c, ..)
+-- `ints` reads orders, equations, sums, differences, magnitudes and multiples by a numeral. Beside it stands a law for each other word that occurs, applied to its parts:
+-- `times-z` (k * x) and `scaled-z` (x * k), `min-z`, `max-z`, `clamp-z`, `sat-z`, `clip1-z`, `floor-z` and `quot-z` (k a numeral), and `mag-z z` where it counts that one part of z is 0.
 -- Assumes nothing.
 use mathlib.Core.Path.{◌≡◌, refl, sym, ap, subst, ◌∙◌}
 use mathlib.Core.Bool.{true, false}
@@ -18,6 +17,8 @@ use Rattle.std.proofs.lemmas.Int.{ints}
 use Rattle.ints.specs.Z.{min_z, max_z, clamp_z, sat_z, clip1_z, floor_z, mod_z, least_i32, most_i32}
 use Rattle.ints.proofs.Fits.{sub-ind, if-ind, clamp-ind}
 
+pub ruleset z-rules = (ints)
+
 -- ---- sums and multiples
 sub-z : (a b : ℕ) → up (sub_ℕ a b) + b ≡ down (sub_ℕ a b) + a
 sub-z a b = sub-ind (λ z. up z + b ≡ down z + a) a b (λ k e. omega arith) (λ k e. omega arith)
@@ -28,17 +29,17 @@ add-z (pos a) (negsuc b) = omega (arith, sub-z a (suc b))
 add-z (negsuc a) (pos b) = omega (arith, sub-z b (suc a))
 add-z (negsuc a) (negsuc b) = omega arith
 
-pub neg-z : (x : ℤ) → (up (neg_ℤ x) ≡ down x) × (down (neg_ℤ x) ≡ up x)
+neg-z : (x : ℤ) → (up (neg_ℤ x) ≡ down x) × (down (neg_ℤ x) ≡ up x)
 neg-z (pos zero) = (refl, refl)
 neg-z (pos (suc n)) = (refl, refl)
 neg-z (negsuc n) = (refl, refl)
 
 pub diff-z : (x y : ℤ) → up (x -ℤ y) + (down x + up y) ≡ down (x -ℤ y) + (up x + down y)
-diff-z x y = omega (arith, add-z x (neg_ℤ y), neg-z y)
+diff-z x y = omega (arith, ints)
 
 pub times-z : (k : ℕ) (x : ℤ) → (up (pos k *ℤ x) ≡ k * up x) × (down (pos k *ℤ x) ≡ k * down x)
 times-z k (pos a) = omega arith
-times-z k (negsuc a) = omega (arith, neg-z (pos (k * suc a)))
+times-z k (negsuc a) = omega (arith, ints)
 
 pub scaled-z : (k : ℕ) (x : ℤ) → (up (x *ℤ pos k) ≡ k * up x) × (down (x *ℤ pos k) ≡ k * down x)
 scaled-z k x = rw (*ℤ_comm x (pos k)) (times-z k x)
@@ -98,7 +99,7 @@ clip1-z z =
     z
     (λ e. omega (arith, ints, mag-z z))
     (λ e f. omega (arith, ints, mag-z z))
-    (λ e f. omega (arith, ints, mag-z z, abs-z z))
+    (λ e f. omega (arith, ints, mag-z z))
 
 -- z is k times its quotient and the remainder, which is below k
 pub floor-z : (k : ℕ) (z : ℤ) → 0 < k → (k * up (floor_z z k) + mod_z z k + down z ≡ up z + k * down (floor_z z k)) × (mod_z z k < k)

@@ -35,7 +35,7 @@ below-4 P a b c d (suc (suc (suc (suc n)))) h = absurd (omega arith)
 -- a negative one
 minus : (n : ℕ) (z : ℤ) → negsuc n *ℤ z ≡ neg_ℤ (pos (suc n) *ℤ z)
 minus n (pos a) = refl
-minus n (negsuc a) = omega (arith, ints, neg-z (neg_ℤ (pos (suc n * suc a))), neg-z (pos (suc n * suc a)))
+minus n (negsuc a) = omega (arith, ints)
 
 -- as the code reads them from the table
 abbrev pub coefficient : ℕ → ℕ → ℤ
@@ -87,8 +87,8 @@ clip-short a z h =
     (negsuc 4095)
     (pos 4095)
     z
-    (λ e. omega (arith, ints, clip1-z (pos a +ℤ negsuc 4095), clip1-z (pos a +ℤ z), add-z (pos a) (negsuc 4095), add-z (pos a) z, mag-z (pos a +ℤ z), mag-z (pos a +ℤ negsuc 4095)))
-    (λ e f. omega (arith, ints, clip1-z (pos a +ℤ pos 4095), clip1-z (pos a +ℤ z), add-z (pos a) (pos 4095), add-z (pos a) z))
+    (λ e. omega (arith, ints, clip1-z (pos a +ℤ negsuc 4095), clip1-z (pos a +ℤ z), mag-z (pos a +ℤ z), mag-z (pos a +ℤ negsuc 4095)))
+    (λ e f. omega (arith, ints, clip1-z (pos a +ℤ pos 4095), clip1-z (pos a +ℤ z)))
     (λ e f. refl)
 
 -- a block read back from its array
