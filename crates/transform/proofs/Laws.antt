@@ -14,7 +14,7 @@ use mir.Syntax.{w8}
 use Rattle.transform.specs.declared.svq3_dequant.TheConstants.{MATRIX}
 use Rattle.ints.proofs.Fits.{read, within-clamp, within-lit, clamp-ind}
 use Rattle.std.proofs.lemmas.Int.{ints}
-use Rattle.ints.proofs.Linear.{add-z, neg-z, clip1-z, mag-z}
+use Rattle.ints.proofs.Linear.{clip1-z, mag-z}
 use Rattle.picture.specs.Picture.{seen}
 use Rattle.picture.specs.InnerRows.{row, rows}
 use Rattle.picture.proofs.Laws.{more, row-values, rows_more, rows_other, painted-values}

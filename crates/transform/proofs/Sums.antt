@@ -70,48 +70,19 @@ module _ (t dc : ℤ) (h : nat_abs t ≤ 2000000000) (k : nat_abs dc ≤ 800000)
   rounded-within = within-floor 4096 1048576 _ (within-fits w32 _ _ with-rounding tt) tt
 
 -- ---- in two parts: 13 (a ± c), and 17 b + 7 d or 7 b - 17 d
-abbrev even : ℤ → ℤ → ℤ
-even a c = pos 13 *ℤ (a +ℤ c)
-
-abbrev even' : ℤ → ℤ → ℤ
-even' a c = pos 13 *ℤ (a -ℤ c)
-
-abbrev odd : ℤ → ℤ → ℤ
-odd b d = pos 17 *ℤ b +ℤ pos 7 *ℤ d
-
-abbrev odd' : ℤ → ℤ → ℤ
-odd' b d = pos 7 *ℤ b -ℤ pos 17 *ℤ d
-
-module _ (a b c d : ℤ) where
-  parts-0 : even a c +ℤ odd b d ≡ sum_of 0 a b c d
-  unfolding sum_of
-  parts-0 = omega (arith, ints)
-
-  parts-1 : even' a c +ℤ odd' b d ≡ sum_of 1 a b c d
-  unfolding sum_of
-  parts-1 = omega (arith, ints)
-
-  parts-2 : even' a c -ℤ odd' b d ≡ sum_of 2 a b c d
-  unfolding sum_of
-  parts-2 = omega (arith, ints)
-
-  parts-3 : even a c -ℤ odd b d ≡ sum_of 3 a b c d
-  unfolding sum_of
-  parts-3 = omega (arith, ints)
-
 -- what is made of the parts of sum k fits 32 bits, and read back it is that sum
 abbrev pub parts : ℕ → ℤ → ℤ → ℤ → ℤ → ℤ
-parts zero a b c d = even a c +ℤ odd b d
-parts (suc zero) a b c d = even' a c +ℤ odd' b d
-parts (suc (suc zero)) a b c d = even' a c -ℤ odd' b d
-parts (suc (suc (suc k))) a b c d = even a c -ℤ odd b d
+parts zero a b c d = pos 13 *ℤ (a +ℤ c) +ℤ (pos 17 *ℤ b +ℤ pos 7 *ℤ d)
+parts (suc zero) a b c d = pos 13 *ℤ (a -ℤ c) +ℤ (pos 7 *ℤ b -ℤ pos 17 *ℤ d)
+parts (suc (suc zero)) a b c d = pos 13 *ℤ (a -ℤ c) -ℤ (pos 7 *ℤ b -ℤ pos 17 *ℤ d)
+parts (suc (suc (suc k))) a b c d = pos 13 *ℤ (a +ℤ c) -ℤ (pos 17 *ℤ b +ℤ pos 7 *ℤ d)
 
 parts-sum : (k : ℕ) (a b c d : ℤ) → parts k a b c d ≡ sum_of k a b c d
 unfolding sum_of
-parts-sum zero a b c d = parts-0 a b c d
-parts-sum (suc zero) a b c d = parts-1 a b c d
-parts-sum (suc (suc zero)) a b c d = parts-2 a b c d
-parts-sum (suc (suc (suc k))) a b c d = parts-3 a b c d
+parts-sum zero a b c d = omega (arith, ints)
+parts-sum (suc zero) a b c d = omega (arith, ints)
+parts-sum (suc (suc zero)) a b c d = omega (arith, ints)
+parts-sum (suc (suc (suc k))) a b c d = omega (arith, ints)
 
 pub parts-fit : (k : ℕ) {a b c d z : ℤ} → Small 40000000 a b c d → z ≡ parts k a b c d → SFits w32 z
 parts-fit k {a} {b} {c} {d} small e = subst (SFits w32) (sym (e ∙ parts-sum k a b c d)) (sum_fits k 40000000 (lit≤ tt) small)
