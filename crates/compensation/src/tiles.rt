@@ -16,6 +16,7 @@ use picture::Block;
 use std::array;
 
 // W × H samples of `src`, row after row, into the lanes from `at` on.
+// `Tile` is a clause, here and below: W and H are const parameters, and no value is there whose type could keep it.
 fn load_lanes<const W: usize, const H: usize>(
     t: &mut [u8; 16],
     at: usize,

@@ -32,6 +32,7 @@ fn columns_of(width: usize, bx: usize) -> [usize; 17]
     array::from_fn(|c| near_of(width, bx + c))
 }
 
+// A place with 17 more, here and below: a slice of just these would be cut out anew for each row, and `store_row` takes a place.
 fn gather_row(window: &mut [u8], plane: &[u8], columns: &[usize; 17], at: usize, line: usize)
     requires { (at + 17 ≤ length window.old) × ((k : ℕ) → k < 17 → line + get_or columns.now k 0 < length plane.now) }
     ensures { window.new ≡ row window.old at (picked plane.now line columns.now) 17 }
@@ -42,6 +43,7 @@ fn gather_row(window: &mut [u8], plane: &[u8], columns: &[usize; 17], at: usize,
 }
 
 // 17 taps of each of h rows, the first of them at by, one by one: the first of rows of 34 places.
+// What is asked of `window` and `h` is asked by `gather` too: an array of 17 rows would ask more of who calls that with fewer. That `by` is no further than 16 below the plane ties two arguments.
 fn gather_each(window: &mut [u8], plane: Plane, columns: &[usize; 17], by: usize, h: usize)
     requires h_in_bounds { (h * 34 ≤ length window.old) × (h ≤ 17) }
     requires place { (by ≤ plane.size.height + 16) × ((k : ℕ) → k < 17 → get_or columns.now k 0 < plane.size.width) }
