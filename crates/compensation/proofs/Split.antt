@@ -10,7 +10,6 @@ use mir.Val.{SFits, to_z}
 use mir.Facts.{to_z-of_z, to_z_pos}
 use Rattle.ints.specs.Z.{floor_z, mod_z}
 use Rattle.std.proofs.lemmas.Int.{ints}
-use Rattle.ints.proofs.Linear.{add-z, diff-z, mag-z}
 use Rattle.ints.proofs.Laws.{floor-shift}
 use Rattle.ints.proofs.Fits.{read, signed}
 use Rattle.ints.proofs.Same.{reads}

@@ -21,7 +21,6 @@ use mir.Syntax.{w64}
 use mir.Facts.{to_z-of_z}
 use Rattle.ints.proofs.Fits.{read, sub-ind, clamp-ind}
 use Rattle.std.proofs.lemmas.Int.{ints}
-use Rattle.ints.proofs.Linear.{add-z, diff-z, abs-z, mag-z}
 use Rattle.ints.proofs.Laws.{clamp-low, floor-shift}
 use Rattle.compensation.specs.Sample.{nearest, tap, sample_at, sixths, block_sample}
 use Rattle.compensation.specs.Formula.{along, formula}

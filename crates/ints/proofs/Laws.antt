@@ -17,7 +17,7 @@ use Rattle.ints.specs.InnerHeld.{held_z}
 use Rattle.ints.specs.declared.Held.{Held}
 use Rattle.ints.proofs.Fits.{read}
 use Rattle.std.proofs.lemmas.Int.{ints}
-use Rattle.ints.proofs.Linear.{up, down, add-z, diff-z, times-z, mag-z, min-z, clamp-z, sat-z, floor-z}
+use Rattle.ints.proofs.Linear.{up, down, add-z, times-z, mag-z, min-z, clamp-z, sat-z, floor-z}
 
 -- ---- held in a range
 module _ (lo hi z : ℤ) (h : lt_z hi lo ≡ false) where

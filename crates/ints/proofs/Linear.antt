@@ -3,14 +3,12 @@
 -- `ints` reads orders, equations, sums, differences, magnitudes and multiples by a numeral. Beside it stands a law for each other word that occurs, applied to its parts:
 -- `times-z` (k * x) and `scaled-z` (x * k), `min-z`, `max-z`, `clamp-z`, `sat-z`, `clip1-z`, `floor-z` and `quot-z` (k a numeral), and `mag-z z` where it counts that one part of z is 0.
 -- Assumes nothing.
-use mathlib.Core.Path.{◌≡◌, refl, sym, ap, subst, ◌∙◌}
-use mathlib.Core.Bool.{true, false}
-use Prim.Native.Nat.{ℕ, zero, suc, ◌+◌, ◌*◌, ◌/◌, ◌≤◌, ◌<◌, min, max}
+use mathlib.Core.Path.{◌≡◌, refl, sym, ◌∙◌}
+use mathlib.Core.Bool.{false}
+use Prim.Native.Nat.{ℕ, zero, suc, ◌+◌, ◌*◌, ◌/◌, ◌<◌, min, max}
 use native.Mathlib.Nat.{div-add-mod, mod-lt, zero-div}
 use native.Mathlib.Omega.{arith}
-use borrow.Author.Tests.{ltb-true, ltb-false, leb-true, leb-false, lt-ltb, le-ltb, le-leb, lt-leb}
 pub use borrow.Author.Differences.{up, down}
-use lib.Dec.{T}
 use lib.IntN.{ℤ, pos, negsuc, neg_ℤ, nat_abs, sub_ℕ, ◌+ℤ◌, ◌-ℤ◌, ◌*ℤ◌, *ℤ_comm}
 use lib.Signed.{mag, lt_z, quot_z}
 use Rattle.std.proofs.lemmas.Int.{ints}

@@ -2,7 +2,7 @@
 -- Assumes nothing.
 use mathlib.Core.Path.{◌≡◌, refl, sym, ap, subst, ◌∙◌}
 use mathlib.Core.List.{List, [], ◌∷◌}
-use Prim.Native.Nat.{ℕ, zero, suc, ◌+◌, ◌*◌, ◌≤◌, ◌<◌}
+use Prim.Native.Nat.{ℕ, zero, suc, ◌*◌, ◌≤◌, ◌<◌}
 use native.Mathlib.Nat.{mul-add}
 use native.Mathlib.Omega.{arith}
 use lib.Dec.{lit≤}
@@ -14,7 +14,7 @@ use mir.Facts.{to_z-of_z}
 use Rattle.ints.proofs.Fits.{read, Within, within-fits, within-floor}
 use Rattle.ints.proofs.Laws.{sat-same}
 use Rattle.std.proofs.lemmas.Int.{ints}
-use Rattle.ints.proofs.Linear.{up, down, add-z, diff-z, times-z, mag-z, abs-z}
+use Rattle.ints.proofs.Linear.{up, down, times-z, mag-z, abs-z}
 use Rattle.transform.specs.Residual.{sum_of, weighed, rounded}
 use Rattle.transform.proofs.Laws.{below-4}
 use Rattle.transform.specs.InnerPasses.{Small, sums_of}

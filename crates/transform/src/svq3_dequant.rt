@@ -111,7 +111,12 @@ fn weigh_rows(k: usize, x: &[i32; 16]) -> [i32; 4]
 fn apply_luma_transform_rows(x: &[i32; 16]) -> [i32; 16]
     ensures { result ≡ listed (turned (rows_of (placed x.now 0))) }
 {
-    let y = [weigh_rows(0, x), weigh_rows(1, x), weigh_rows(2, x), weigh_rows(3, x)];
+    let y = [
+        weigh_rows(0, x),
+        weigh_rows(1, x),
+        weigh_rows(2, x),
+        weigh_rows(3, x),
+    ];
     array::from_fn(|n| y[n / 4][n % 4])
 }
 

@@ -1,10 +1,8 @@
 -- `compensation::tiles::load_lanes` meets its contract: one lane a turn.
 use mathlib.Core.Path.{◌≡◌, refl, ap, ◌∙◌}
-use Prim.Native.Nat.{◌+◌, ◌-◌, ◌*◌}
+use Prim.Native.Nat.{◌*◌}
 use native.Mathlib.Nat.{zero-add}
 use native.Mathlib.Omega.{arith}
-use lib.ListN.{length, take, drop}
-use Rattle.refusal.proofs.Parts.{part-length}
 use Rattle.picture.specs.InnerRows.{row}
 use Rattle.picture.proofs.Laws.{row_more}
 use Rattle.compensation.specs.InnerLanes.{lane_of, lane_at}

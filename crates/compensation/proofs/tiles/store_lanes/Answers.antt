@@ -3,7 +3,7 @@ use mathlib.Core.Path.{◌≡◌, refl, ap, ◌∙◌}
 use Prim.Native.Nat.{◌≤◌, ◌<◌, ◌+◌, ◌-◌, ◌*◌, ◌/◌, ◌%◌}
 use native.Mathlib.Nat.{add-mul, mul-le-mul_right}
 use native.Mathlib.Omega.{arith}
-use lib.ListN.{length, length-set, take, drop, get_or}
+use lib.ListN.{length, length-set, take, drop}
 use lib.Seq.{get_or-take, get_or-drop}
 use Rattle.refusal.proofs.Parts.{part-length}
 use Rattle.picture.proofs.Laws.{rows-painted}

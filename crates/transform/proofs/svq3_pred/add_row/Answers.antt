@@ -1,5 +1,5 @@
 -- One sample a turn; what a turn reads, no turn before it wrote.
-use Rattle.std.proofs.Common.{◌≡◌, ◌+◌, ◌-◌, take, drop, refl, ◌∙◌, ap, pos, ◌+ℤ◌, get_or, length, arith, rules}
+use Rattle.std.proofs.Common.{◌≡◌, ◌+◌, ◌-◌, take, drop, refl, ◌∙◌, ap, pos, ◌+ℤ◌, get_or, arith, rules}
 use Rattle.std.proofs.lemmas.List.{get_or-take, get_or-drop}
 use Rattle.std.proofs.lemmas.Slice.{put_mid-paste}
 use native.Mathlib.Nat.{zero-add}
@@ -10,7 +10,7 @@ use mir.Val.{SFits}
 use mir.Facts.{to_z-of_z}
 use Rattle.ints.specs.Z.{clip1_z}
 use Rattle.picture.specs.InnerRows.{row}
-use Rattle.picture.proofs.Laws.{row_more, row_other, row_same, row-length, row-paste}
+use Rattle.picture.proofs.Laws.{row_more, row_other, row_same, row-paste}
 use Rattle.transform.specs.InnerArrays.{reconstructed_at}
 use Rattle.transform.proofs.svq3_pred.add_row.Goals as goal
 
