@@ -44,6 +44,7 @@ impl Mix {
     }
 }
 
+// The taps by their numbers: runs of each tap in a `zip` would be longer, and after one over `iter_mut` the proof knows no element of the slice.
 fn mix_row(dst: &mut [u8], src: &[u8], to: usize, from: usize, n: usize, mix: Mix)
     requires { (to + n ≤ length dst.old) × (from + n + (mix.beside + mix.second) ≤ length src.now) }
     ensures { dst.new ≡ row dst.old to (mixed_row mix src.now from) n }

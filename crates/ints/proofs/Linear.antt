@@ -9,23 +9,18 @@ use Prim.Native.Nat.{ℕ, zero, suc, ◌+◌, ◌*◌, ◌/◌, ◌<◌, min, ma
 use native.Mathlib.Nat.{div-add-mod, mod-lt, zero-div}
 use native.Mathlib.Omega.{arith}
 pub use borrow.Author.Differences.{up, down}
-use lib.IntN.{ℤ, pos, negsuc, neg_ℤ, nat_abs, sub_ℕ, ◌+ℤ◌, ◌-ℤ◌, ◌*ℤ◌, *ℤ_comm}
+use lib.IntN.{ℤ, pos, negsuc, neg_ℤ, nat_abs, ◌+ℤ◌, ◌-ℤ◌, ◌*ℤ◌, *ℤ_comm}
 use lib.Signed.{mag, lt_z, quot_z}
 use Rattle.std.proofs.lemmas.Int.{ints}
 use Rattle.ints.specs.Z.{min_z, max_z, clamp_z, sat_z, clip1_z, floor_z, mod_z, least_i32, most_i32}
-use Rattle.ints.proofs.Fits.{sub-ind, if-ind, clamp-ind}
+use Rattle.ints.proofs.Fits.{if-ind, clamp-ind}
 
+-- the name that proofs of `vectors` have for it
 pub ruleset z-rules = (ints)
 
 -- ---- sums and multiples
-sub-z : (a b : ℕ) → up (sub_ℕ a b) + b ≡ down (sub_ℕ a b) + a
-sub-z a b = sub-ind (λ z. up z + b ≡ down z + a) a b (λ k e. omega arith) (λ k e. omega arith)
-
 pub add-z : (x y : ℤ) → up (x +ℤ y) + (down x + down y) ≡ down (x +ℤ y) + (up x + up y)
-add-z (pos a) (pos b) = omega arith
-add-z (pos a) (negsuc b) = omega (arith, sub-z a (suc b))
-add-z (negsuc a) (pos b) = omega (arith, sub-z b (suc a))
-add-z (negsuc a) (negsuc b) = omega arith
+add-z x y = omega (arith, ints)
 
 neg-z : (x : ℤ) → (up (neg_ℤ x) ≡ down x) × (down (neg_ℤ x) ≡ up x)
 neg-z (pos zero) = (refl, refl)
