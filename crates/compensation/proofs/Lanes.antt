@@ -1,16 +1,19 @@
 -- Tiles: lanes that are loaded are samples of the source, lanes that are stored paint a block, and blocks painted one below the other are one block.
 -- Assumes nothing.
-use mathlib.Core.Path.{◌≡◌, sym, ap, ◌∙◌}
+use mathlib.Core.Path.{◌≡◌, refl, sym, ap, ◌∙◌}
 use mathlib.Core.Logic.{⊎_elim}
 use mathlib.Core.List.{List}
-use Prim.Native.Nat.{ℕ, zero, suc, ◌+◌, ◌*◌, ◌/◌, ◌%◌, ◌≤◌, ◌<◌}
+use Prim.Native.Nat.{ℕ, zero, suc, ◌+◌, ◌-◌, ◌*◌, ◌/◌, ◌%◌, ◌≤◌, ◌<◌}
 use native.Mathlib.Nat.{add-zero, zero-add, add_assoc, add-suc, add-mul, mul_comm, mul-le-mul_right, le-mul_of_pos_right, le_trans, mod-lt, zero-div, zero-mod, mul-div_right, mul-mod_right, div-add-mod', eq-or-lt_of_le, div-lt_iff_lt-mul}
 use native.Mathlib.Omega.{arith}
 use lib.Arith.{digits_div, digits_mod}
-use lib.ListN.{length, get_or, set, replicate}
+use lib.ListN.{length, get_or, set, replicate, take, drop}
+use borrow.Rule.Slice.PartMut.{put_mid}
+use Rattle.std.proofs.lemmas.Slice.{put_mid-paste}
+use Rattle.refusal.proofs.Parts.{part-length}
 use Rattle.picture.specs.Painted.{Inside, painted}
 use Rattle.picture.specs.InnerRows.{row, rows}
-use Rattle.picture.proofs.Laws.{more, row_same, row_other, row_more, rows-painted, painted-values}
+use Rattle.picture.proofs.Laws.{more, row-length, row-paste, row_same, row_other, row_more, rows-painted, painted-values}
 use Rattle.compensation.specs.InnerKernel.{mixed_taps, mixed_at, mixed_row, mixed_block}
 use Rattle.compensation.specs.InnerLanes.{Tile, lane_of, lane_at, tiled, taken_at, Holds, mixed_lane}
 use Rattle.compensation.specs.declared.mix.Mix.{Mix}
@@ -75,6 +78,18 @@ module _ (l : List ℕ) (s x y : ℕ) (v : ℕ → ℕ → ℕ) where
         let at : y * s + x + (q * s + k % w) ≡ (y + q) * s + x + k % w = omega (arith, add-mul y q s) in
         let one : set m ((y + q) * s + x + k % w) a ≡ row (rows l s x y v w q) ((y + q) * s + x) (v q) (k % w + 1) = row_more (rows l s x y v w q) ((y + q) * s + x) (v q) (k % w) e f in
         rw at (one ∙ ⊎_elim (λ last. row_done k last) (λ lt. let n = next-column some k lt in rw (n.0, n.1)) (eq-or-lt_of_le (omega (arith, mod-lt k some))))
+
+-- ---- a part of a list: its length, and that the list has what was stored in the part one by one
+pub part-size : (at n : ℕ) (l : List ℕ) → at + n ≤ length l → length (take (at + n - at) (drop at l)) ≡ n
+part-size at n l room = let same : at + n - at ≡ n = omega arith in rw same (part-length at n l room)
+
+pub part-row : {p : List ℕ} (l : List ℕ) (at n : ℕ) (v : ℕ → ℕ) → at + n ≤ length l → p ≡ row (take (at + n - at) (drop at l)) 0 v n → put_mid at (at + n - at) l p ≡ row l at v n
+part-row {p} l at n v room e =
+    let some = take (at + n - at) (drop at l) in
+    let many = part-size at n l room in
+    let long : length p ≡ n = ap length e ∙ row-length some 0 v n ∙ many in
+    put_mid-paste at _ l p p n refl (omega arith) (omega arith)
+    ∙ row-paste l at v p 0 n room (omega arith) (λ k h. ap (λ m. get_or m k 0) e ∙ rw zero-add at (row_same some 0 v n k 0 h (omega arith)))
 
 -- ---- lanes that were loaded
 pub loaded : {t : List ℕ} (l src : List ℕ) (at from stride w h : ℕ) → t ≡ row l at (lane_at src from stride w) (w * h) → at + w * h ≤ length l → Holds t at w h (taken_at src stride from)

@@ -9,7 +9,7 @@ use mir.Syntax.{w32, w64}
 use mir.Val.{SFits, to_z}
 use mir.Facts.{to_z-of_z, to_z_pos}
 use Rattle.ints.specs.Z.{floor_z, mod_z}
-use Rattle.ints.proofs.Linear.{z-rules, add-z, diff-z, mag-z}
+use Rattle.std.proofs.lemmas.Int.{ints}
 use Rattle.ints.proofs.Laws.{floor-shift}
 use Rattle.ints.proofs.Fits.{read, signed}
 use Rattle.ints.proofs.Same.{reads}
@@ -22,17 +22,17 @@ module _ {v z : ℤ} (k : ℕ) (enough : 2147483648 ≤ 6 * k) (small : SFits w3
   raised : pos n ≡ pos (6 * k) +ℤ v
   raised =
       let e : read w64 z ≡ pos (6 * k) +ℤ v = to_z-of_z fits ∙ is ∙ +ℤ_comm v (pos (6 * k)) in
-      pos-nat_abs (read w64 z) (omega (arith, z-rules, e, add-z (pos (6 * k)) v, mag-z v, small.sfits, mag-z (read w64 z))) ∙ e
+      pos-nat_abs (read w64 z) (omega (arith, ints, e, small.sfits)) ∙ e
 
   pub raised-small : n < 9223372036854775808
-  raised-small = omega (arith, z-rules, is ∙ +ℤ_comm v (pos (6 * k)) ∙ sym raised, mag-z z, fits.sfits)
+  raised-small = omega (arith, ints, is ∙ +ℤ_comm v (pos (6 * k)) ∙ sym raised, fits.sfits)
 
   pub raised-whole : to_z w64 (n / 6) -ℤ pos k ≡ floor_z v 6
   unfolding floor_z
   raised-whole =
       let p : to_z w64 (n / 6) ≡ pos (n / 6) = to_z_pos w64 (omega (arith, raised-small)) in
       let e : pos (n / 6) ≡ pos k +ℤ floor_z v 6 = ap (λ x. floor_z x 6) raised ∙ (floor-shift 6 (pos k) v (omega arith)).0 in
-      ap (λ x. x -ℤ pos k) p ∙ omega (arith, z-rules, e, add-z (pos k) (floor_z v 6), diff-z (pos (n / 6)) (pos k))
+      ap (λ x. x -ℤ pos k) p ∙ omega (arith, ints, e)
 
   pub raised-phase : n % 6 ≡ mod_z v 6
   unfolding mod_z

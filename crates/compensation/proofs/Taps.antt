@@ -20,7 +20,7 @@ use Rattle.ints.specs.Z.{when◌then◌else◌, clamp_z, floor_z, mod_z}
 use mir.Syntax.{w64}
 use mir.Facts.{to_z-of_z}
 use Rattle.ints.proofs.Fits.{read, sub-ind, clamp-ind}
-use Rattle.ints.proofs.Linear.{z-rules, add-z, diff-z, abs-z, mag-z}
+use Rattle.std.proofs.lemmas.Int.{ints}
 use Rattle.ints.proofs.Laws.{clamp-low, floor-shift}
 use Rattle.compensation.specs.Sample.{nearest, tap, sample_at, sixths, block_sample}
 use Rattle.compensation.specs.Formula.{along, formula}
@@ -36,9 +36,9 @@ module _ (n : ℕ) where
   unfolding nearest
   nearest-pos a =
       clamp-ind (λ v. nat_abs v ≡ min a (n - 1)) (pos 0) (pos (n - 1)) (pos a)
-      (λ e. omega (arith, z-rules))
-      (λ e f. omega (arith, z-rules))
-      (λ e f. omega (arith, z-rules))
+      (λ e. omega (arith, ints))
+      (λ e f. omega (arith, ints))
+      (λ e f. omega (arith, ints))
 
   nearest-neg : (a : ℕ) → nearest n (negsuc a) ≡ 0
   unfolding nearest clamp_z when◌then◌else◌
@@ -48,17 +48,17 @@ module _ (n : ℕ) where
   unfolding origin_of
   origin-pos a =
       clamp-ind (λ v. nat_abs (v +ℤ pos 17) ≡ min a (n - 1) + 17) (negsuc 16) (pos (n - 1)) (pos a)
-      (λ e. absurd (omega (arith, z-rules)))
-      (λ e f. omega (arith, z-rules))
-      (λ e f. omega (arith, z-rules))
+      (λ e. absurd (omega (arith, ints)))
+      (λ e f. omega (arith, ints))
+      (λ e f. omega (arith, ints))
 
   origin-neg : (a : ℕ) → origin_of n (negsuc a) ≡ 16 - a
   unfolding origin_of
   origin-neg a =
       clamp-ind (λ v. nat_abs (v +ℤ pos 17) ≡ 16 - a) (negsuc 16) (pos (n - 1)) (negsuc a)
-      (λ e. omega (arith, z-rules))
-      (λ e f. absurd (omega (arith, z-rules)))
-      (λ e f. omega (arith, z-rules, abs-z (negsuc a +ℤ pos 17), add-z (negsuc a) (pos 17), mag-z (negsuc a +ℤ pos 17)))
+      (λ e. omega (arith, ints))
+      (λ e f. absurd (omega (arith, ints)))
+      (λ e f. omega (arith, ints))
 
   -- held by the library's methods
   pub held-std : (z : ℤ) → int_max (negsuc 16) (int_min z (pos (n - 1))) ≡ clamp_z (negsuc 16) (pos (n - 1)) z
@@ -66,16 +66,16 @@ module _ (n : ℕ) where
       let lo = negsuc 16 in
       let hi = pos (n - 1) in
       clamp-ind (λ v. int_max lo (int_min z hi) ≡ v) lo hi z
-      (λ e. omega (arith, z-rules, int_max_is lo (int_min z hi), int_min_is z hi))
-      (λ e f. omega (arith, z-rules, int_max_is lo (int_min z hi), int_min_is z hi))
-      (λ e f. omega (arith, z-rules, int_max_is lo (int_min z hi), int_min_is z hi))
+      (λ e. omega (arith, ints, int_max_is lo (int_min z hi), int_min_is z hi))
+      (λ e f. omega (arith, ints, int_max_is lo (int_min z hi), int_min_is z hi))
+      (λ e f. omega (arith, ints, int_max_is lo (int_min z hi), int_min_is z hi))
 
   -- it is never below 0
   pub origin-back : (z : ℤ) → clamp_z (negsuc 16) (pos (n - 1)) z +ℤ pos 17 ≡ pos (origin_of n z)
   unfolding origin_of
   origin-back z =
       let held = clamp_z (negsuc 16) (pos (n - 1)) z in
-      sym (pos-nat_abs (held +ℤ pos 17) (omega (arith, z-rules, add-z held (pos 17), mag-z (held +ℤ pos 17), clamp-low (negsuc 16) (pos (n - 1)) z refl)))
+      sym (pos-nat_abs (held +ℤ pos 17) (omega (arith, ints, clamp-low (negsuc 16) (pos (n - 1)) z refl)))
 
   pub origin-le : (z : ℤ) → 0 < n → origin_of n z ≤ n + 16
   origin-le (pos a) h = omega (arith, origin-pos a)
@@ -98,7 +98,7 @@ module _ (n : ℕ) (x v : ℤ) (c : ℕ) where
   whole : (x +ℤ floor_z v 6) +ℤ pos c ≡ floor_z (sixths (x +ℤ pos c) v) 6
   whole =
       let e = (floor-shift 6 (x +ℤ pos c) v (omega arith)).0 in
-      let d : (x +ℤ floor_z v 6) +ℤ pos c ≡ (x +ℤ pos c) +ℤ floor_z v 6 = omega (arith, z-rules, add-z (x +ℤ floor_z v 6) (pos c), add-z x (floor_z v 6), add-z (x +ℤ pos c) (floor_z v 6), add-z x (pos c)) in
+      let d : (x +ℤ floor_z v 6) +ℤ pos c ≡ (x +ℤ pos c) +ℤ floor_z v 6 = omega (arith, ints) in
       d ∙ sym e
 
   first : c < 16 → near n (origin_of n (x +ℤ floor_z v 6) + c) ≡ nearest n (floor_z (sixths (x +ℤ pos c) v) 6)
@@ -106,7 +106,7 @@ module _ (n : ℕ) (x v : ℤ) (c : ℕ) where
 
   second : c < 16 → near n (origin_of n (x +ℤ floor_z v 6) + (c + 1)) ≡ nearest n (floor_z (sixths (x +ℤ pos c) v) 6 +ℤ pos 1)
   second k =
-      let d : (x +ℤ floor_z v 6) +ℤ pos (c + 1) ≡ ((x +ℤ floor_z v 6) +ℤ pos c) +ℤ pos 1 = omega (arith, z-rules, add-z (x +ℤ floor_z v 6) (pos (c + 1)), add-z (x +ℤ floor_z v 6) (pos c), add-z ((x +ℤ floor_z v 6) +ℤ pos c) (pos 1)) in
+      let d : (x +ℤ floor_z v 6) +ℤ pos (c + 1) ≡ ((x +ℤ floor_z v 6) +ℤ pos c) +ℤ pos 1 = omega (arith, ints) in
       near-place n (x +ℤ floor_z v 6) (c + 1) (omega arith) ∙ ap (nearest n) (d ∙ ap (λ (u : ℤ). u +ℤ pos 1) whole)
 
 -- the window's sample is the block's
@@ -222,7 +222,7 @@ module _ (o : ℤ) (n side : ℕ) (small : side ≤ 65536) (e : lies_in o n side
   unfolding lies_in
   one =
       let p = both_true (le_z (pos 0) o) (le_z o (pos side -ℤ pos n)) e in
-      (omega (arith, z-rules, p.0, abs-z o, mag-z o), omega (arith, z-rules, p.0, p.1, abs-z o, mag-z o, diff-z (pos side) (pos n)))
+      (omega (arith, ints, p.0), omega (arith, ints, p.0, p.1))
 
   same : read w64 o ≡ o
   same = to_z-of_z {w = w64} (record { sfits = rw one.0 (omega (arith, one.1)) })

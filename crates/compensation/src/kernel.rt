@@ -44,20 +44,23 @@ impl Mix {
     }
 }
 
+// The taps by their numbers: runs of each tap in a `zip` would be longer, and after one over `iter_mut` the proof knows no element of the slice.
 fn mix_row(dst: &mut [u8], src: &[u8], to: usize, from: usize, n: usize, mix: Mix)
     requires { (to + n ≤ length dst.old) × (from + n + (mix.beside + mix.second) ≤ length src.now) }
     ensures { dst.new ≡ row dst.old to (mixed_row mix src.now from) n }
 {
-    for c in 0..n {
+    for (c, sample) in dst[to..to + n].iter_mut().enumerate() {
         let i = from + c;
         let beside = src[i + mix.beside];
         let second = src[i + mix.second];
         let last = src[i + (mix.beside + mix.second)];
-        dst[to + c] = mix.sample(src[i], beside, second, last);
+        *sample = mix.sample(src[i], beside, second, last);
     }
 }
 
 // The block whose taps start at `from` of `src`.
+// `BlockIn` ties a block to the slice that is written, here and in `svq3_mc` and `tiles`: a struct of both would be taken apart wherever the slice is lent on, and the two chroma slices have one block.
+// How far the taps reach is a clause for a like reason: it ties `src` and `from` to the block and the mix.
 pub fn mix_block(dst: &mut [u8], src: &[u8], b: Block, from: usize, mix: Mix)
     requires { BlockIn b (length dst.old) × (from + b.h * mix.stride + b.w < length src.now) }
     ensures { dst.new ≡ block_painted b (mixed_block mix src.now from) dst.old }
@@ -125,7 +128,7 @@ pub fn extra_of(p: Phases) -> usize
     if p.px == 0 && p.py == 0 { 0 } else { 1 }
 }
 
-// Whole samples: rows that are copied. The width is a number of its own, so that it can be a literal; not a const parameter, for widths of no partition share the loop.
+// Whole samples: rows that are copied. `Span` stands beside `BlockIn`, as in `svq3_mc`. The width is a number of its own, so that it can be a literal; not a const parameter, for widths of no partition share the loop.
 fn copy_rows(dst: &mut [u8], src: &[u8], b: Block, w: usize, stride: usize, from: usize)
     requires w_value { w ≡ b.w }
     requires span { Span b.w b.h × BlockIn b (length dst.old) × (from + (b.h - 1) * stride + b.w ≤ length src.now) }

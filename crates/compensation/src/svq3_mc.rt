@@ -174,7 +174,7 @@ pub fn motion_compensate_block(
     Ok(())
 }
 
-// The chroma block of a luma block: place, spans and vector halved toward zero.
+// The chroma block of a luma block: place, spans and vector halved toward zero. Its numbers come one by one for the same reason.
 pub fn motion_compensate_chroma_block(
     out: &mut [u8],
     plane: &[u8],

@@ -13,8 +13,10 @@ ghost use Rattle.compensation.specs.InnerBlock.{Span};
 use crate::kernel::{copy_by_width, extra_of, mix_block, mix_of};
 use crate::mix::{Mix, Phases};
 use picture::Block;
+use std::array;
 
 // W × H samples of `src`, row after row, into the lanes from `at` on.
+// `Tile` is a clause, here and below: W and H are const parameters, and no value is there whose type could keep it.
 fn load_lanes<const W: usize, const H: usize>(
     t: &mut [u8; 16],
     at: usize,
@@ -25,8 +27,8 @@ fn load_lanes<const W: usize, const H: usize>(
     requires { Tile W H 16 × (at + W * H ≤ 16) × (from + H * stride + W ≤ length src.now + stride) }
     ensures { t.new ≡ row t.old at (lane_at src.now from stride W) (W * H) }
 {
-    for k in 0..W * H {
-        t[at + k] = src[from + (k / W * stride + k % W)];
+    for (k, lane) in t[at..at + W * H].iter_mut().enumerate() {
+        *lane = src[from + (k / W * stride + k % W)];
     }
 }
 
@@ -43,8 +45,8 @@ fn store_lanes<const W: usize, const H: usize>(
     ensures { dst.new ≡ painted stride x y W H (tiled t at W) dst.old }
 {
     let to = y * stride + x;
-    for k in 0..W * H {
-        dst[to + (k / W * stride + k % W)] = t[at + k];
+    for (k, lane) in t[at..at + W * H].iter().enumerate() {
+        dst[to + (k / W * stride + k % W)] = *lane;
     }
 }
 
@@ -75,7 +77,6 @@ fn load_both<const W: usize, const H: usize>(
 }
 
 // Sixteen samples by the four taps of a mix.
-// By a loop: `array::from_fn` tells of a lane that some call gave it, not with which captured taps, and the proof did not close.
 fn mix_lanes(
     first: [u8; 16],
     beside: [u8; 16],
@@ -85,11 +86,7 @@ fn mix_lanes(
 ) -> [u8; 16]
     ensures { result ≡ row (replicate 16 0) 0 (mixed_lane mix first beside second last) 16 }
 {
-    let mut t = [0u8; 16];
-    for k in 0..16 {
-        t[k] = mix.sample(first[k], beside[k], second[k], last[k]);
-    }
-    t
+    array::from_fn(|k| mix.sample(first[k], beside[k], second[k], last[k]))
 }
 
 fn mix_tile<const W: usize, const H: usize>(src: &[u8], from: usize, mix: Mix) -> [u8; 16]

@@ -5,6 +5,7 @@ ghost use Rattle.compensation.specs.InnerKernel.{origin_of, near, near_from, pic
 
 use crate::plane::Plane;
 use picture::rows::store_row;
+use std::array;
 
 // The column, or row, of a block's first tap, held and counted from -17.
 pub fn origin(first: i64, n: usize) -> usize
@@ -23,18 +24,15 @@ fn near_of(n: usize, i: usize) -> usize
     i.saturating_sub(17).min(n - 1)
 }
 
-// The columns of the taps of a row: they are the same in every row of a block. By a loop, as in `tiles::mix_lanes`.
+// The columns of the taps of a row: they are the same in every row of a block.
 fn columns_of(width: usize, bx: usize) -> [usize; 17]
     requires { (0 < width) × (bx ≤ 131072) }
     ensures { result ≡ row (replicate 17 0) 0 (near_from width bx) 17 }
 {
-    let mut t = [0usize; 17];
-    for c in 0..17 {
-        t[c] = near_of(width, bx + c);
-    }
-    t
+    array::from_fn(|c| near_of(width, bx + c))
 }
 
+// A place with 17 more, here and below: a slice of just these would be cut out anew for each row, and `store_row` takes a place.
 fn gather_row(window: &mut [u8], plane: &[u8], columns: &[usize; 17], at: usize, line: usize)
     requires { (at + 17 ≤ length window.old) × ((k : ℕ) → k < 17 → line + get_or columns.now k 0 < length plane.now) }
     ensures { window.new ≡ row window.old at (picked plane.now line columns.now) 17 }
@@ -45,6 +43,7 @@ fn gather_row(window: &mut [u8], plane: &[u8], columns: &[usize; 17], at: usize,
 }
 
 // 17 taps of each of h rows, the first of them at by, one by one: the first of rows of 34 places.
+// What is asked of `window` and `h` is asked by `gather` too: an array of 17 rows would ask more of who calls that with fewer. That `by` is no further than 16 below the plane ties two arguments.
 fn gather_each(window: &mut [u8], plane: Plane, columns: &[usize; 17], by: usize, h: usize)
     requires h_in_bounds { (h * 34 ≤ length window.old) × (h ≤ 17) }
     requires place { (by ≤ plane.size.height + 16) × ((k : ℕ) → k < 17 → get_or columns.now k 0 < plane.size.width) }

@@ -1,5 +1,5 @@
 -- Laws of the definitions of specs/, and the one by which a sum is taken back.
--- An order is the outcome of a test: `lt_z b a ≡ false` says a ≤ b, as a branch and `z-rules` of proofs/Linear.antt have it.
+-- An order is the outcome of a test: `lt_z b a ≡ false` says a ≤ b, as a branch and `ints` of proofs/Linear.antt have it.
 -- Assumes nothing.
 use mathlib.Core.Path.{◌≡◌, refl, sym, ap, subst, ◌∙◌}
 use mathlib.Core.Bool.{Bool, true, false, ◌||◌, true≢false}
@@ -16,22 +16,23 @@ use Rattle.ints.specs.Z.{clamp_z, sat_z, over_z, floor_z, mod_z, least_i32, most
 use Rattle.ints.specs.InnerHeld.{held_z}
 use Rattle.ints.specs.declared.Held.{Held}
 use Rattle.ints.proofs.Fits.{read}
-use Rattle.ints.proofs.Linear.{up, down, z-rules, add-z, diff-z, times-z, mag-z, min-z, clamp-z, sat-z, floor-z}
+use Rattle.std.proofs.lemmas.Int.{ints}
+use Rattle.ints.proofs.Linear.{up, down, add-z, times-z, mag-z, min-z, clamp-z, sat-z, floor-z}
 
 -- ---- held in a range
 module _ (lo hi z : ℤ) (h : lt_z hi lo ≡ false) where
   pub clamp-low : lt_z (clamp_z lo hi z) lo ≡ false
-  clamp-low = omega (arith, z-rules, clamp-z lo hi z h)
+  clamp-low = sym (omega (arith, ints, clamp-z lo hi z h))
 
   pub clamp-high : lt_z hi (clamp_z lo hi z) ≡ false
-  clamp-high = omega (arith, z-rules, clamp-z lo hi z h, min-z hi z)
+  clamp-high = sym (omega (arith, ints, clamp-z lo hi z h, min-z hi z))
 
 -- ---- held in i32
 pub sat-fits : (z : ℤ) → SFits w32 (sat_z z)
-sat-fits z = record { sfits = omega (arith, sat-z z, mag-z (sat_z z)) }
+sat-fits z = record { sfits = omega (arith, ints, sat-z z, mag-z z) }
 
 pub sat-same : {z : ℤ} → SFits w32 z → sat_z z ≡ z
-sat-same {z} h = omega (arith, z-rules, sat-z z, mag-z z, h.sfits)
+sat-same {z} h = omega (arith, ints, sat-z z, h.sfits)
 
 -- z leaves i32 exactly when it has to be held
 or_no : (s t : Bool) → (s || t) ≡ false → (s ≡ false) × (t ≡ false)
@@ -40,13 +41,13 @@ or_no false t e = (refl, e)
 
 pub over_no : (z : ℤ) → over_z z ≡ false → SFits w32 z
 unfolding over_z
-over_no z e = let k = or_no (lt_z z least_i32) (lt_z most_i32 z) e in record { sfits = omega (arith, z-rules, mag-z z) }
+over_no z e = let k = or_no (lt_z z least_i32) (lt_z most_i32 z) e in record { sfits = omega (arith, ints, mag-z z) }
 
 pub no-over : {z : ℤ} → SFits w32 z → over_z z ≡ false
 unfolding over_z
 no-over {z} h =
-    let e : lt_z z least_i32 ≡ false = omega (arith, z-rules, mag-z z, h.sfits) in
-    let f : lt_z most_i32 z ≡ false = omega (arith, z-rules, mag-z z, h.sfits) in
+    let e : lt_z z least_i32 ≡ false = sym (omega (arith, ints, h.sfits)) in
+    let f : lt_z most_i32 z ≡ false = sym (omega (arith, ints, h.sfits)) in
     rw (e, f) refl
 
 pub over-sat : (z : ℤ) → (over_z z ≡ false) ↔ (sat_z z ≡ z)
@@ -57,7 +58,7 @@ times-add : (k : ℕ) (a b : ℤ) → pos k *ℤ (a +ℤ b) ≡ pos k *ℤ a +�
 times-add k a b =
     omega (
       arith,
-      z-rules,
+      ints,
       times-z k (a +ℤ b),
       times-z k a,
       times-z k b,
@@ -71,7 +72,7 @@ times-add k a b =
 
 -- ---- rounded down
 floor-mod : (k : ℕ) (z : ℤ) → 0 < k → z ≡ pos k *ℤ floor_z z k +ℤ pos (mod_z z k)
-floor-mod k z h = omega (arith, z-rules, floor-z k z h, add-z (pos k *ℤ floor_z z k) (pos (mod_z z k)), times-z k (floor_z z k))
+floor-mod k z h = omega (arith, ints, floor-z k z h, times-z k (floor_z z k))
 
 mag-floor : (z : ℤ) (k : ℕ) → mag (floor_z z k) ≤ mag z
 unfolding floor_z
@@ -91,14 +92,14 @@ quotient k n r h = (mul-add-div (omega arith) n r ∙ omega (arith, div-eq_of_lt
 floor-unique : (k : ℕ) (z a : ℤ) (r : ℕ) → r < k → z ≡ pos k *ℤ a +ℤ pos r → (floor_z z k ≡ a) × (mod_z z k ≡ r)
 unfolding floor_z mod_z
 floor-unique k (pos m) (pos n) r h e =
-    let s : m ≡ k * n + r = omega (arith, z-rules, e, add-z (pos k *ℤ pos n) (pos r), times-z k (pos n)) in
+    let s : m ≡ k * n + r = omega (arith, ints, e, times-z k (pos n)) in
     (ap (λ x. pos (x / k)) s ∙ ap pos (quotient k n r h).0, ap (λ x. x % k) s ∙ (quotient k n r h).1)
 floor-unique k (pos m) (negsuc n) r h e =
-    absurd (omega (arith, z-rules, e, add-z (pos k *ℤ negsuc n) (pos r), times-z k (negsuc n), mul-suc k n))
+    absurd (omega (arith, ints, e, times-z k (negsuc n), mul-suc k n))
 floor-unique k (negsuc m) (pos n) r h e =
-    absurd (omega (arith, z-rules, e, add-z (pos k *ℤ pos n) (pos r), times-z k (pos n)))
+    absurd (omega (arith, ints, e, times-z k (pos n)))
 floor-unique k (negsuc m) (negsuc n) r h e =
-    let s : m ≡ k * n + (k - suc r) = omega (arith, z-rules, e, add-z (pos k *ℤ negsuc n) (pos r), times-z k (negsuc n), mul-suc k n) in
+    let s : m ≡ k * n + (k - suc r) = omega (arith, ints, e, times-z k (negsuc n), mul-suc k n) in
     let q = quotient k n (k - suc r) (omega arith) in
     (ap (λ x. negsuc (x / k)) s ∙ ap negsuc q.0, ap (λ x. k - suc (x % k)) s ∙ omega (arith, q.1))
 
@@ -108,7 +109,7 @@ floor-shift k a z h = floor-unique k (pos k *ℤ a +ℤ z) (a +ℤ floor_z z k) 
 
 -- ---- a sum taken back
 pub add-diff : (a d b : ℤ) → a +ℤ d ≡ b → d ≡ b -ℤ a
-add-diff a d b e = omega (arith, z-rules, e, add-z a d, diff-z b a)
+add-diff a d b e = omega (arith, ints, e)
 
 -- ---- what a call of `hold`, `sat_add` or `sat_mul` gave, field by field: `value_of _ c.sat_add.ensures`
 value_of : {r : Held} (z : ℤ) → r ≡ held_z z → r.value ≡ sat_z z

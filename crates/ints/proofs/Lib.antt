@@ -4,3 +4,4 @@ pub mod Same
 pub mod Linear
 pub mod Laws
 pub mod Words
+pub mod Made

@@ -1,112 +1,38 @@
--- ℤ for `omega`, which reads naturals only: z is `up z - down z`, of which one is 0, and an order or an equation of ℤ is one of sums of them. In a proof:
---     omega (arith, z-rules, add-z a b, times-z 6 c, ..)
--- `z-rules` reads what is known and the goal: `x ≡ y`, `lt_z x y ≡ true` or `false`, `le_z` alike, `T (non_neg x)`. Beside it stands a law for each sum, difference, multiple, minimum ..
--- that occurs, applied to its parts: `add-z`, `diff-z`, `neg-z`, `times-z` (k * x) and `scaled-z` (x * k), `min-z`, `max-z`, `clamp-z`, `sat-z`, `clip1-z`, `floor-z` and `quot-z` (k a numeral),
--- for a range `mag-z z`, and for a magnitude `abs-z z`.
+-- What the library's `ints` leaves for `omega` over ℤ, where z is `up z - down z`. In a proof:
+--     omega (arith, ints, min-z a b, sat-z c, ..)
+-- `ints` reads orders, equations, sums, differences, magnitudes and multiples by a numeral. Beside it stands a law for each other word that occurs, applied to its parts:
+-- `times-z` (k * x) and `scaled-z` (x * k), `min-z`, `max-z`, `clamp-z`, `sat-z`, `clip1-z`, `floor-z` and `quot-z` (k a numeral), and `mag-z z` where it counts that one part of z is 0.
 -- Assumes nothing.
-use mathlib.Core.Path.{◌≡◌, refl, sym, ap, subst, ◌∙◌}
-use mathlib.Core.Bool.{true, false}
-use Prim.Native.Nat.{ℕ, zero, suc, ◌+◌, ◌*◌, ◌/◌, ◌≤◌, ◌<◌, min, max}
+use mathlib.Core.Path.{◌≡◌, refl, sym, ◌∙◌}
+use mathlib.Core.Bool.{false}
+use Prim.Native.Nat.{ℕ, zero, suc, ◌+◌, ◌*◌, ◌/◌, ◌<◌, min, max}
 use native.Mathlib.Nat.{div-add-mod, mod-lt, zero-div}
 use native.Mathlib.Omega.{arith}
-use borrow.Author.Tests.{ltb-true, ltb-false, leb-true, leb-false, lt-ltb, le-ltb, le-leb, lt-leb}
 pub use borrow.Author.Differences.{up, down}
-use lib.Dec.{T}
-use lib.IntN.{ℤ, pos, negsuc, neg_ℤ, nat_abs, sub_ℕ, ◌+ℤ◌, ◌-ℤ◌, ◌*ℤ◌, *ℤ_comm}
-use lib.Signed.{mag, non_neg, lt_z, le_z, quot_z}
+use lib.IntN.{ℤ, pos, negsuc, neg_ℤ, nat_abs, ◌+ℤ◌, ◌-ℤ◌, ◌*ℤ◌, *ℤ_comm}
+use lib.Signed.{mag, lt_z, quot_z}
+use Rattle.std.proofs.lemmas.Int.{ints}
 use Rattle.ints.specs.Z.{min_z, max_z, clamp_z, sat_z, clip1_z, floor_z, mod_z, least_i32, most_i32}
-use Rattle.ints.proofs.Fits.{sub-ind, if-ind, clamp-ind}
+use Rattle.ints.proofs.Fits.{if-ind, clamp-ind}
 
--- ---- what is known
-pub of_eq : (x y : ℤ) → x ≡ y → up x + down y ≡ up y + down x
-of_eq x y e = subst (λ (z : ℤ). up x + down z ≡ up z + down x) e refl
-
-pub of_lt : (x y : ℤ) → lt_z x y ≡ true → up x + down y < up y + down x
-of_lt (pos a) (pos b) e = omega (arith, ltb-true a b e)
-of_lt (pos a) (negsuc b) e = absurd (subst T (sym e) tt)
-of_lt (negsuc a) (pos b) e = omega arith
-of_lt (negsuc a) (negsuc b) e = omega (arith, ltb-true b a e)
-
-pub of_ge : (x y : ℤ) → lt_z x y ≡ false → up y + down x ≤ up x + down y
-of_ge (pos a) (pos b) e = omega (arith, ltb-false a b e)
-of_ge (pos a) (negsuc b) e = omega arith
-of_ge (negsuc a) (pos b) e = absurd (subst T e tt)
-of_ge (negsuc a) (negsuc b) e = omega (arith, ltb-false b a e)
-
-pub of_le : (x y : ℤ) → le_z x y ≡ true → up x + down y ≤ up y + down x
-of_le (pos a) (pos b) e = omega (arith, leb-true a b e)
-of_le (pos a) (negsuc b) e = absurd (subst T (sym e) tt)
-of_le (negsuc a) (pos b) e = omega arith
-of_le (negsuc a) (negsuc b) e = omega (arith, leb-true b a e)
-
-pub of-gt : (x y : ℤ) → le_z x y ≡ false → up y + down x < up x + down y
-of-gt (pos a) (pos b) e = omega (arith, leb-false a b e)
-of-gt (pos a) (negsuc b) e = omega arith
-of-gt (negsuc a) (pos b) e = absurd (subst T e tt)
-of-gt (negsuc a) (negsuc b) e = omega (arith, leb-false b a e)
-
-pub of-nonneg : (x : ℤ) → T (non_neg x) → down x ≡ 0
-of-nonneg (pos n) t = refl
-of-nonneg (negsuc n) t = absurd t
-
--- ---- the goal
-pub to-eq : (x y : ℤ) → up x + down y ≡ up y + down x → x ≡ y
-to-eq (pos a) (pos b) h = ap pos (omega arith)
-to-eq (pos a) (negsuc b) h = absurd (omega arith)
-to-eq (negsuc a) (pos b) h = absurd (omega arith)
-to-eq (negsuc a) (negsuc b) h = ap negsuc (omega arith)
-
-pub to-lt : (x y : ℤ) → up x + down y < up y + down x → lt_z x y ≡ true
-to-lt (pos a) (pos b) h = lt-ltb a b (omega arith)
-to-lt (pos a) (negsuc b) h = absurd (omega arith)
-to-lt (negsuc a) (pos b) h = refl
-to-lt (negsuc a) (negsuc b) h = lt-ltb b a (omega arith)
-
-pub to-ge : (x y : ℤ) → up y + down x ≤ up x + down y → lt_z x y ≡ false
-to-ge (pos a) (pos b) h = le-ltb a b (omega arith)
-to-ge (pos a) (negsuc b) h = refl
-to-ge (negsuc a) (pos b) h = absurd (omega arith)
-to-ge (negsuc a) (negsuc b) h = le-ltb b a (omega arith)
-
-pub to_le : (x y : ℤ) → up x + down y ≤ up y + down x → le_z x y ≡ true
-to_le (pos a) (pos b) h = le-leb a b (omega arith)
-to_le (pos a) (negsuc b) h = absurd (omega arith)
-to_le (negsuc a) (pos b) h = refl
-to_le (negsuc a) (negsuc b) h = le-leb b a (omega arith)
-
-pub to-gt : (x y : ℤ) → up y + down x < up x + down y → le_z x y ≡ false
-to-gt (pos a) (pos b) h = lt-leb a b (omega arith)
-to-gt (pos a) (negsuc b) h = refl
-to-gt (negsuc a) (pos b) h = absurd (omega arith)
-to-gt (negsuc a) (negsuc b) h = lt-leb b a (omega arith)
-
-pub to-nonneg : (x : ℤ) → down x ≡ 0 → T (non_neg x)
-to-nonneg (pos n) h = tt
-to-nonneg (negsuc n) h = absurd (omega arith)
-
-pub ruleset z-rules = (of_eq, of_lt, of_ge, of_le, of-gt, of-nonneg, to-eq, to-lt, to-ge, to_le, to-gt, to-nonneg)
+-- the name that proofs of `vectors` have for it
+pub ruleset z-rules = (ints)
 
 -- ---- sums and multiples
-sub-z : (a b : ℕ) → up (sub_ℕ a b) + b ≡ down (sub_ℕ a b) + a
-sub-z a b = sub-ind (λ z. up z + b ≡ down z + a) a b (λ k e. omega arith) (λ k e. omega arith)
-
 pub add-z : (x y : ℤ) → up (x +ℤ y) + (down x + down y) ≡ down (x +ℤ y) + (up x + up y)
-add-z (pos a) (pos b) = omega arith
-add-z (pos a) (negsuc b) = omega (arith, sub-z a (suc b))
-add-z (negsuc a) (pos b) = omega (arith, sub-z b (suc a))
-add-z (negsuc a) (negsuc b) = omega arith
+add-z x y = omega (arith, ints)
 
-pub neg-z : (x : ℤ) → (up (neg_ℤ x) ≡ down x) × (down (neg_ℤ x) ≡ up x)
+neg-z : (x : ℤ) → (up (neg_ℤ x) ≡ down x) × (down (neg_ℤ x) ≡ up x)
 neg-z (pos zero) = (refl, refl)
 neg-z (pos (suc n)) = (refl, refl)
 neg-z (negsuc n) = (refl, refl)
 
 pub diff-z : (x y : ℤ) → up (x -ℤ y) + (down x + up y) ≡ down (x -ℤ y) + (up x + down y)
-diff-z x y = omega (arith, add-z x (neg_ℤ y), neg-z y)
+diff-z x y = omega (arith, ints)
 
 pub times-z : (k : ℕ) (x : ℤ) → (up (pos k *ℤ x) ≡ k * up x) × (down (pos k *ℤ x) ≡ k * down x)
 times-z k (pos a) = omega arith
-times-z k (negsuc a) = omega (arith, neg-z (pos (k * suc a)))
+times-z k (negsuc a) = omega (arith, ints)
 
 pub scaled-z : (k : ℕ) (x : ℤ) → (up (x *ℤ pos k) ≡ k * up x) × (down (x *ℤ pos k) ≡ k * down x)
 scaled-z k x = rw (*ℤ_comm x (pos k)) (times-z k x)
@@ -123,11 +49,11 @@ abs-z (negsuc n) = omega arith
 -- ---- the definitions of specs/
 pub min-z : (x y : ℤ) → up (min_z x y) + (down x + down y) ≡ down (min_z x y) + min (up x + down y) (up y + down x)
 unfolding min_z
-min-z x y = if-ind (λ z. up z + (down x + down y) ≡ down z + min (up x + down y) (up y + down x)) (lt_z x y) x y (λ e. omega (arith, z-rules)) (λ e. omega (arith, z-rules))
+min-z x y = if-ind (λ z. up z + (down x + down y) ≡ down z + min (up x + down y) (up y + down x)) (lt_z x y) x y (λ e. omega (arith, ints)) (λ e. omega (arith, ints))
 
 pub max-z : (x y : ℤ) → up (max_z x y) + (down x + down y) ≡ down (max_z x y) + max (up x + down y) (up y + down x)
 unfolding max_z
-max-z x y = if-ind (λ z. up z + (down x + down y) ≡ down z + max (up x + down y) (up y + down x)) (lt_z x y) y x (λ e. omega (arith, z-rules)) (λ e. omega (arith, z-rules))
+max-z x y = if-ind (λ z. up z + (down x + down y) ≡ down z + max (up x + down y) (up y + down x)) (lt_z x y) y x (λ e. omega (arith, ints)) (λ e. omega (arith, ints))
 
 -- a clamp with lo ≤ hi is a maximum of a minimum; name `min-z hi z` beside it
 clamp-is : (lo hi z : ℤ) → lt_z hi lo ≡ false → clamp_z lo hi z ≡ max_z lo (min_z hi z)
@@ -137,12 +63,12 @@ clamp-is lo hi z h =
     lo
     hi
     z
-    (λ e. omega (arith, z-rules, max-z lo (min_z hi z), min-z hi z))
-    (λ e f. omega (arith, z-rules, max-z lo (min_z hi z), min-z hi z))
-    (λ e f. omega (arith, z-rules, max-z lo (min_z hi z), min-z hi z))
+    (λ e. omega (arith, ints, max-z lo (min_z hi z), min-z hi z))
+    (λ e f. omega (arith, ints, max-z lo (min_z hi z), min-z hi z))
+    (λ e f. omega (arith, ints, max-z lo (min_z hi z), min-z hi z))
 
 pub clamp-z : (lo hi z : ℤ) → lt_z hi lo ≡ false → up (clamp_z lo hi z) + (down lo + down (min_z hi z)) ≡ down (clamp_z lo hi z) + max (up lo + down (min_z hi z)) (up (min_z hi z) + down lo)
-clamp-z lo hi z h = omega (arith, max-z lo (min_z hi z), of_eq (clamp_z lo hi z) (max_z lo (min_z hi z)) (clamp-is lo hi z h))
+clamp-z lo hi z h = omega (arith, ints, max-z lo (min_z hi z), clamp-is lo hi z h)
 
 pub sat-z : (z : ℤ) → (up (sat_z z) ≡ min (up z) 2147483647) × (down (sat_z z) ≡ min (down z) 2147483648)
 unfolding sat_z
@@ -152,9 +78,9 @@ sat-z z =
     least_i32
     most_i32
     z
-    (λ e. omega (arith, z-rules, mag-z z))
-    (λ e f. omega (arith, z-rules, mag-z z))
-    (λ e f. omega (arith, z-rules, mag-z z))
+    (λ e. omega (arith, ints, mag-z z))
+    (λ e f. omega (arith, ints, mag-z z))
+    (λ e f. omega (arith, ints, mag-z z))
 
 pub clip1-z : (z : ℤ) → clip1_z z ≡ min (up z) 255
 unfolding clip1_z
@@ -164,9 +90,9 @@ clip1-z z =
     (pos 0)
     (pos 255)
     z
-    (λ e. omega (arith, z-rules, mag-z z))
-    (λ e f. omega (arith, z-rules, mag-z z))
-    (λ e f. omega (arith, z-rules, mag-z z, abs-z z))
+    (λ e. omega (arith, ints, mag-z z))
+    (λ e f. omega (arith, ints, mag-z z))
+    (λ e f. omega (arith, ints, mag-z z))
 
 -- z is k times its quotient and the remainder, which is below k
 pub floor-z : (k : ℕ) (z : ℤ) → 0 < k → (k * up (floor_z z k) + mod_z z k + down z ≡ up z + k * down (floor_z z k)) × (mod_z z k < k)

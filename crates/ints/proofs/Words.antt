@@ -16,7 +16,7 @@ use Rattle.ints.specs.Z.{min_z, max_z, clamp_z, sat_z, over_z}
 use Rattle.ints.specs.InnerHeld.{held_z}
 use Rattle.ints.specs.declared.Held.{Held}
 use Rattle.ints.proofs.Fits.{read, clamp-ind}
-use Rattle.ints.proofs.Linear.{z-rules, min-z, max-z, sat-z}
+use Rattle.ints.proofs.Linear.{min-z, max-z, sat-z}
 use Rattle.ints.proofs.Laws.{sat-fits, no-over, over_no}
 
 pub min-word : (a b : ℤ) → int_min a b ≡ min_z a b
@@ -32,7 +32,7 @@ clamp-word lo hi z h =
 
 -- `saturating_add`, `saturating_mul`
 pub sat-word : (z : ℤ) → saturate_signed w32 z ≡ sat_z z
-sat-word z = grind (arith, z-rules, sat-z z)
+sat-word z = grind (arith, ints, sat-z z)
 
 -- `checked_add`, `checked_mul`: None where the exact number leaves i32
 pub over-word : (z x : ℤ) (r : Option ℤ) (b : Bool) → SomeIff r (SFits w32 z) x → is_some r ≡ not b → b ≡ over_z z

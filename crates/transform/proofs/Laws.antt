@@ -13,7 +13,8 @@ use Rattle.ints.specs.Z.{when◌then◌else◌, clamp_z, sat_z, clip1_z}
 use mir.Syntax.{w8}
 use Rattle.transform.specs.declared.svq3_dequant.TheConstants.{MATRIX}
 use Rattle.ints.proofs.Fits.{read, within-clamp, within-lit, clamp-ind}
-use Rattle.ints.proofs.Linear.{z-rules, add-z, neg-z, clip1-z, mag-z}
+use Rattle.std.proofs.lemmas.Int.{ints}
+use Rattle.ints.proofs.Linear.{clip1-z, mag-z}
 use Rattle.picture.specs.Picture.{seen}
 use Rattle.picture.specs.InnerRows.{row, rows}
 use Rattle.picture.proofs.Laws.{more, row-values, rows_more, rows_other, painted-values}
@@ -34,7 +35,7 @@ below-4 P a b c d (suc (suc (suc (suc n)))) h = absurd (omega arith)
 -- a negative one
 minus : (n : ℕ) (z : ℤ) → negsuc n *ℤ z ≡ neg_ℤ (pos (suc n) *ℤ z)
 minus n (pos a) = refl
-minus n (negsuc a) = omega (arith, z-rules, neg-z (neg_ℤ (pos (suc n * suc a))), neg-z (pos (suc n * suc a)))
+minus n (negsuc a) = omega (arith, ints)
 
 -- as the code reads them from the table
 abbrev pub coefficient : ℕ → ℕ → ℤ
@@ -86,8 +87,8 @@ clip-short a z h =
     (negsuc 4095)
     (pos 4095)
     z
-    (λ e. omega (arith, z-rules, clip1-z (pos a +ℤ negsuc 4095), clip1-z (pos a +ℤ z), add-z (pos a) (negsuc 4095), add-z (pos a) z, mag-z (pos a +ℤ z), mag-z (pos a +ℤ negsuc 4095)))
-    (λ e f. omega (arith, z-rules, clip1-z (pos a +ℤ pos 4095), clip1-z (pos a +ℤ z), add-z (pos a) (pos 4095), add-z (pos a) z))
+    (λ e. omega (arith, ints, clip1-z (pos a +ℤ negsuc 4095), clip1-z (pos a +ℤ z), mag-z (pos a +ℤ z), mag-z (pos a +ℤ negsuc 4095)))
+    (λ e f. omega (arith, ints, clip1-z (pos a +ℤ pos 4095), clip1-z (pos a +ℤ z)))
     (λ e f. refl)
 
 -- a block read back from its array

@@ -6,5 +6,4 @@ pub mod Squares
 pub mod Methods
 pub mod Turns
 pub mod Unsaturated
-pub mod Made
 pub mod Slices

@@ -2,7 +2,7 @@
 -- Assumes nothing.
 use mathlib.Core.Path.{◌≡◌, refl, sym, ap, subst, ◌∙◌}
 use mathlib.Core.List.{List, [], ◌∷◌}
-use Prim.Native.Nat.{ℕ, zero, suc, ◌+◌, ◌*◌, ◌≤◌, ◌<◌}
+use Prim.Native.Nat.{ℕ, zero, suc, ◌*◌, ◌≤◌, ◌<◌}
 use native.Mathlib.Nat.{mul-add}
 use native.Mathlib.Omega.{arith}
 use lib.Dec.{lit≤}
@@ -13,50 +13,27 @@ use mir.Val.{SFits}
 use mir.Facts.{to_z-of_z}
 use Rattle.ints.proofs.Fits.{read, Within, within-fits, within-floor}
 use Rattle.ints.proofs.Laws.{sat-same}
-use Rattle.ints.proofs.Linear.{up, down, z-rules, add-z, diff-z, times-z, mag-z, abs-z}
+use Rattle.std.proofs.lemmas.Int.{ints}
+use Rattle.ints.proofs.Linear.{up, down, times-z, mag-z, abs-z}
 use Rattle.transform.specs.Residual.{sum_of, weighed, rounded}
 use Rattle.transform.proofs.Laws.{below-4}
 use Rattle.transform.specs.InnerPasses.{Small, sums_of}
 
--- ---- for `omega`
-module _ (a b c d : ℤ) where
-  sum-z-0 : up (sum_of 0 a b c d) + (13 * down a + 17 * down b + 13 * down c + 7 * down d) ≡ down (sum_of 0 a b c d) + (13 * up a + 17 * up b + 13 * up c + 7 * up d)
-  unfolding sum_of
-  sum-z-0 = omega (arith, add-z (pos 13 *ℤ a) (pos 17 *ℤ b), add-z (pos 13 *ℤ a +ℤ pos 17 *ℤ b) (pos 13 *ℤ c), add-z (pos 13 *ℤ a +ℤ pos 17 *ℤ b +ℤ pos 13 *ℤ c) (pos 7 *ℤ d), times-z 13 a, times-z 17 b, times-z 13 c, times-z 7 d)
-
-  sum-z-1 : up (sum_of 1 a b c d) + (13 * down a + 7 * down b + 13 * up c + 17 * up d) ≡ down (sum_of 1 a b c d) + (13 * up a + 7 * up b + 13 * down c + 17 * down d)
-  unfolding sum_of
-  sum-z-1 = omega (arith, add-z (pos 13 *ℤ a) (pos 7 *ℤ b), diff-z (pos 13 *ℤ a +ℤ pos 7 *ℤ b) (pos 13 *ℤ c), diff-z (pos 13 *ℤ a +ℤ pos 7 *ℤ b -ℤ pos 13 *ℤ c) (pos 17 *ℤ d), times-z 13 a, times-z 7 b, times-z 13 c, times-z 17 d)
-
-  sum-z-2 : up (sum_of 2 a b c d) + (13 * down a + 7 * up b + 13 * up c + 17 * down d) ≡ down (sum_of 2 a b c d) + (13 * up a + 7 * down b + 13 * down c + 17 * up d)
-  unfolding sum_of
-  sum-z-2 = omega (arith, diff-z (pos 13 *ℤ a) (pos 7 *ℤ b), diff-z (pos 13 *ℤ a -ℤ pos 7 *ℤ b) (pos 13 *ℤ c), add-z (pos 13 *ℤ a -ℤ pos 7 *ℤ b -ℤ pos 13 *ℤ c) (pos 17 *ℤ d), times-z 13 a, times-z 7 b, times-z 13 c, times-z 17 d)
-
-  sum-z-3 : up (sum_of 3 a b c d) + (13 * down a + 17 * up b + 13 * down c + 7 * up d) ≡ down (sum_of 3 a b c d) + (13 * up a + 17 * down b + 13 * up c + 7 * down d)
-  unfolding sum_of
-  sum-z-3 = omega (arith, diff-z (pos 13 *ℤ a) (pos 17 *ℤ b), add-z (pos 13 *ℤ a -ℤ pos 17 *ℤ b) (pos 13 *ℤ c), diff-z (pos 13 *ℤ a -ℤ pos 17 *ℤ b +ℤ pos 13 *ℤ c) (pos 7 *ℤ d), times-z 13 a, times-z 17 b, times-z 13 c, times-z 7 d)
-
 -- ---- magnitudes
-abs-add : (x y : ℤ) → nat_abs (x +ℤ y) ≤ nat_abs x + nat_abs y
-abs-add x y = omega (arith, add-z x y, abs-z x, abs-z y, abs-z (x +ℤ y), mag-z (x +ℤ y))
-
-abs_diff : (x y : ℤ) → nat_abs (x -ℤ y) ≤ nat_abs x + nat_abs y
-abs_diff x y = omega (arith, diff-z x y, abs-z x, abs-z y, abs-z (x -ℤ y), mag-z (x -ℤ y))
-
 pub abs-times : (k : ℕ) (x : ℤ) → nat_abs (pos k *ℤ x) ≡ k * nat_abs x
 abs-times k x = omega (arith, times-z k x, abs-z x, abs-z (pos k *ℤ x), ap (λ n. k * n) (abs-z x), mul-add k (up x) (down x))
 
 -- a sum is no larger than 50 times the largest of the four
 pub sum-abs : (k m : ℕ) {a b c d : ℤ} → Small m a b c d → nat_abs (sum_of k a b c d) ≤ 50 * m
 unfolding sum_of
-sum-abs zero m {a} {b} {c} {d} h = omega (arith, abs-add (pos 13 *ℤ a) (pos 17 *ℤ b), abs-add (pos 13 *ℤ a +ℤ pos 17 *ℤ b) (pos 13 *ℤ c), abs-add (pos 13 *ℤ a +ℤ pos 17 *ℤ b +ℤ pos 13 *ℤ c) (pos 7 *ℤ d), abs-times 13 a, abs-times 17 b, abs-times 13 c, abs-times 7 d)
-sum-abs (suc zero) m {a} {b} {c} {d} h = omega (arith, abs-add (pos 13 *ℤ a) (pos 7 *ℤ b), abs_diff (pos 13 *ℤ a +ℤ pos 7 *ℤ b) (pos 13 *ℤ c), abs_diff (pos 13 *ℤ a +ℤ pos 7 *ℤ b -ℤ pos 13 *ℤ c) (pos 17 *ℤ d), abs-times 13 a, abs-times 7 b, abs-times 13 c, abs-times 17 d)
-sum-abs (suc (suc zero)) m {a} {b} {c} {d} h = omega (arith, abs_diff (pos 13 *ℤ a) (pos 7 *ℤ b), abs_diff (pos 13 *ℤ a -ℤ pos 7 *ℤ b) (pos 13 *ℤ c), abs-add (pos 13 *ℤ a -ℤ pos 7 *ℤ b -ℤ pos 13 *ℤ c) (pos 17 *ℤ d), abs-times 13 a, abs-times 7 b, abs-times 13 c, abs-times 17 d)
-sum-abs (suc (suc (suc k))) m {a} {b} {c} {d} h = omega (arith, abs_diff (pos 13 *ℤ a) (pos 17 *ℤ b), abs-add (pos 13 *ℤ a -ℤ pos 17 *ℤ b) (pos 13 *ℤ c), abs_diff (pos 13 *ℤ a -ℤ pos 17 *ℤ b +ℤ pos 13 *ℤ c) (pos 7 *ℤ d), abs-times 13 a, abs-times 17 b, abs-times 13 c, abs-times 7 d)
+sum-abs zero m h = omega (arith, ints)
+sum-abs (suc zero) m h = omega (arith, ints)
+sum-abs (suc (suc zero)) m h = omega (arith, ints)
+sum-abs (suc (suc (suc k))) m h = omega (arith, ints)
 
 -- where 50 times the largest fits, a sum fits, and nothing saturates
 sum_fits : (k m : ℕ) {a b c d : ℤ} → 50 * m ≤ 2147483647 → Small m a b c d → SFits w32 (sum_of k a b c d)
-sum_fits k m {a} {b} {c} {d} h p = record { sfits = omega (arith, sum-abs k m p, mag-z (sum_of k a b c d), abs-z (sum_of k a b c d)) }
+sum_fits k m {a} {b} {c} {d} h p = record { sfits = omega (arith, ints, sum-abs k m p, mag-z (sum_of k a b c d)) }
 
 pub weighed-exact : (k m : ℕ) {a b c d : ℤ} → 50 * m ≤ 2147483647 → Small m a b c d → weighed k a b c d ≡ sum_of k a b c d
 unfolding weighed
@@ -69,7 +46,7 @@ sums_at a b c d k h = below-4 (λ k. get_or (sums_of a b c d) k (pos 0) ≡ sum_
 
 -- ---- with the DC, and rounded
 pub abs-fits : (n : ℕ) (z : ℤ) → nat_abs z ≤ n → n ≤ 2147483647 → SFits w32 z
-abs-fits n z h k = record { sfits = omega (arith, mag-z z, abs-z z) }
+abs-fits n z h k = record { sfits = omega (arith, ints, mag-z z) }
 
 -- sum k of four numbers that were read
 pub sum-read : (k : ℕ) {a b c d : ℤ} {l : List ℤ} → k < 4 → Small 40000000 a b c d → l ≡ sums_of (read w32 a) (read w32 b) (read w32 c) (read w32 d) → read w32 (get_or l k (pos 0)) ≡ sum_of k a b c d
@@ -83,54 +60,29 @@ sum-read k {a} {b} {c} {d} h s e =
 
 module _ (t dc : ℤ) (h : nat_abs t ≤ 2000000000) (k : nat_abs dc ≤ 800000) where
   pub with-dc : SFits w32 (t +ℤ pos 169 *ℤ dc)
-  with-dc = abs-fits 2135200000 _ (omega (arith, abs-add t (pos 169 *ℤ dc), abs-times 169 dc)) (lit≤ tt)
+  with-dc = abs-fits 2135200000 _ (omega (arith, ints)) (lit≤ tt)
 
   pub with-rounding : SFits w32 (t +ℤ pos 169 *ℤ dc +ℤ pos 524288)
-  with-rounding = abs-fits 2135724288 _ (omega (arith, abs-add (t +ℤ pos 169 *ℤ dc) (pos 524288), abs-add t (pos 169 *ℤ dc), abs-times 169 dc)) (lit≤ tt)
+  with-rounding = abs-fits 2135724288 _ (omega (arith, ints)) (lit≤ tt)
 
   pub rounded-within : Within 4096 (rounded t dc)
   unfolding rounded
   rounded-within = within-floor 4096 1048576 _ (within-fits w32 _ _ with-rounding tt) tt
 
 -- ---- in two parts: 13 (a ± c), and 17 b + 7 d or 7 b - 17 d
-abbrev even : ℤ → ℤ → ℤ
-even a c = pos 13 *ℤ (a +ℤ c)
-
-abbrev even' : ℤ → ℤ → ℤ
-even' a c = pos 13 *ℤ (a -ℤ c)
-
-abbrev odd : ℤ → ℤ → ℤ
-odd b d = pos 17 *ℤ b +ℤ pos 7 *ℤ d
-
-abbrev odd' : ℤ → ℤ → ℤ
-odd' b d = pos 7 *ℤ b -ℤ pos 17 *ℤ d
-
-module _ (a b c d : ℤ) where
-  parts-0 : even a c +ℤ odd b d ≡ sum_of 0 a b c d
-  parts-0 = omega (arith, z-rules, sum-z-0 a b c d, add-z (even a c) (odd b d), times-z 13 (a +ℤ c), add-z a c, add-z (pos 17 *ℤ b) (pos 7 *ℤ d), times-z 17 b, times-z 7 d)
-
-  parts-1 : even' a c +ℤ odd' b d ≡ sum_of 1 a b c d
-  parts-1 = omega (arith, z-rules, sum-z-1 a b c d, add-z (even' a c) (odd' b d), times-z 13 (a -ℤ c), diff-z a c, diff-z (pos 7 *ℤ b) (pos 17 *ℤ d), times-z 7 b, times-z 17 d)
-
-  parts-2 : even' a c -ℤ odd' b d ≡ sum_of 2 a b c d
-  parts-2 = omega (arith, z-rules, sum-z-2 a b c d, diff-z (even' a c) (odd' b d), times-z 13 (a -ℤ c), diff-z a c, diff-z (pos 7 *ℤ b) (pos 17 *ℤ d), times-z 7 b, times-z 17 d)
-
-  parts-3 : even a c -ℤ odd b d ≡ sum_of 3 a b c d
-  parts-3 = omega (arith, z-rules, sum-z-3 a b c d, diff-z (even a c) (odd b d), times-z 13 (a +ℤ c), add-z a c, add-z (pos 17 *ℤ b) (pos 7 *ℤ d), times-z 17 b, times-z 7 d)
-
 -- what is made of the parts of sum k fits 32 bits, and read back it is that sum
 abbrev pub parts : ℕ → ℤ → ℤ → ℤ → ℤ → ℤ
-parts zero a b c d = even a c +ℤ odd b d
-parts (suc zero) a b c d = even' a c +ℤ odd' b d
-parts (suc (suc zero)) a b c d = even' a c -ℤ odd' b d
-parts (suc (suc (suc k))) a b c d = even a c -ℤ odd b d
+parts zero a b c d = pos 13 *ℤ (a +ℤ c) +ℤ (pos 17 *ℤ b +ℤ pos 7 *ℤ d)
+parts (suc zero) a b c d = pos 13 *ℤ (a -ℤ c) +ℤ (pos 7 *ℤ b -ℤ pos 17 *ℤ d)
+parts (suc (suc zero)) a b c d = pos 13 *ℤ (a -ℤ c) -ℤ (pos 7 *ℤ b -ℤ pos 17 *ℤ d)
+parts (suc (suc (suc k))) a b c d = pos 13 *ℤ (a +ℤ c) -ℤ (pos 17 *ℤ b +ℤ pos 7 *ℤ d)
 
 parts-sum : (k : ℕ) (a b c d : ℤ) → parts k a b c d ≡ sum_of k a b c d
 unfolding sum_of
-parts-sum zero a b c d = parts-0 a b c d
-parts-sum (suc zero) a b c d = parts-1 a b c d
-parts-sum (suc (suc zero)) a b c d = parts-2 a b c d
-parts-sum (suc (suc (suc k))) a b c d = parts-3 a b c d
+parts-sum zero a b c d = omega (arith, ints)
+parts-sum (suc zero) a b c d = omega (arith, ints)
+parts-sum (suc (suc zero)) a b c d = omega (arith, ints)
+parts-sum (suc (suc (suc k))) a b c d = omega (arith, ints)
 
 pub parts-fit : (k : ℕ) {a b c d z : ℤ} → Small 40000000 a b c d → z ≡ parts k a b c d → SFits w32 z
 parts-fit k {a} {b} {c} {d} small e = subst (SFits w32) (sym (e ∙ parts-sum k a b c d)) (sum_fits k 40000000 (lit≤ tt) small)

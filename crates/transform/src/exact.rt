@@ -42,6 +42,7 @@ fn all_within(l: &[i32], most: u32) -> bool
 }
 
 // Whether each of 64 levels, times the entry, and each DC lie within ±800,000.
+// At least 64 levels, or 16, here and in the other files: an array of so many would ask more of callers, who lend all that follow a place.
 pub fn all_small(levels: &[i32], scale: Scale, dc: &[i32; 4]) -> bool
     requires { (64 ≤ length levels.now) × (0 < scale.by) }
     ensures { result ≡ (all_within 800000 dc.now && all_within (800000 / scale.by) (take 64 levels.now)) }
@@ -75,13 +76,14 @@ pub fn rows(levels: &[i32], scale: Scale) -> [[i32; 4]; 16]
     ensures { Rows scale.by levels.now 16 result }
 {
     let mut y = [[0i32; 4]; 16];
-    for i in 0..16 {
-        y[i] = row(&levels[4 * i..], scale);
+    for (i, sums) in y.iter_mut().enumerate() {
+        *sums = row(&levels[4 * i..], scale);
     }
     y
 }
 
 // A sum with the DC, rounded: `finish`, in 32 bits.
+// The bound of the DC is a clause of three functions that hand it down: a struct of the one number would be made for `columns` and opened here.
 fn round(t: i32, dc: i32) -> i16
     requires { (nat_abs t ≤ 2000000000) × (nat_abs dc ≤ 800000) }
     ensures { result ≡ rounded t dc }

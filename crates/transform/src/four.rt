@@ -12,6 +12,8 @@ use crate::{Quantiser, Scale, Square, exact};
 
 // Each function goes over the four blocks itself: a loop is two lines, and one function that takes a closure for them is no shorter.
 
+// `SquareIn` ties a square to the plane that is written, here and for a block: a struct of both would be taken apart for each of the four blocks.
+
 // Four blocks whose levels and DC are small.
 fn add_exact(plane: &mut [u8], s: Square, levels: &[i32], scale: Scale, dc: &[i32; 4])
     requires inside { SquareIn s 8 (length plane.old) }

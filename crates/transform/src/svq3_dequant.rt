@@ -1,5 +1,5 @@
 // Levels times the quantiser's entry, the transform of a block of 4 × 4, and the chroma DC. All saturates at i32.
-ghost use Rattle.std.specs.Prelude.{◌≡◌, ◌≤◌, ◌<◌, pos, ◌*ℤ◌, length};
+ghost use Rattle.std.specs.Prelude.{◌≡◌, ◌≤◌, ◌<◌, [], ◌∷◌, pos, ◌*ℤ◌, length};
 ghost use Rattle.ints.specs.Z.{sat_z};
 ghost use Rattle.transform.specs.Tables.{dequant_coeff, chroma_quantiser_index, chroma_coeff};
 ghost use Rattle.transform.specs.Residual.{placed, listed, scaled, rows_of, rounded, residual};
@@ -9,18 +9,19 @@ ghost use Rattle.transform.specs.InnerArrays.{turned, dot, weighed_row, short, s
 use crate::{Quantiser, Scale};
 use std::array;
 
-const DEQUANT_COEFF_TABLE: [u32; 32] = [
+// Statics: a constant array is stored on the stack anew at each use.
+static DEQUANT_COEFF_TABLE: [u32; 32] = [
     3881, 4351, 4890, 5481, 6154, 6914, 7761, 8718, 9781, 10987, 12339, 13828, 15523, 17435, 19561,
     21873, 24552, 27656, 30847, 34870, 38807, 43747, 49103, 54683, 61694, 68745, 77615, 89113,
     100253, 109366, 126635, 141533,
 ];
 
-const CHROMA_QUANTISER_INDEX: [u32; 32] = [
+static CHROMA_QUANTISER_INDEX: [u32; 32] = [
     0, 1, 2, 3, 4, 5, 6, 7, 8, 9, 10, 11, 12, 13, 14, 15, 16, 17, 17, 18, 19, 20, 20, 21, 22, 22,
     23, 23, 24, 24, 25, 25,
 ];
 
-const MATRIX: [[i8; 4]; 4] = [
+static MATRIX: [[i8; 4]; 4] = [
     [13, 17, 13, 7],
     [13, 7, -13, -17],
     [13, -7, -13, 17],
@@ -67,6 +68,7 @@ fn scale_luma_block_by_quantiser(levels: &[i32], scale: Scale) -> [i32; 16]
 }
 
 // Four numbers by four coefficients. Any coefficients of 8 bits: that each step fits does not depend on the matrix.
+// No arrays of four: the contract would name each number by its place in one of them.
 fn apply_luma_transform_row(p: i8, q: i8, r: i8, s: i8, a: i32, b: i32, c: i32, d: i32) -> i32
     ensures { result ≡ dot p q r s a b c d }
 {
@@ -96,11 +98,26 @@ fn weigh_row(k: usize, x: &[i32; 16], i: usize) -> i32
     )
 }
 
+// Each row of a block by row k of the matrix. By its literal number at each of four calls: the compiler then knows the coefficients, and
+// holds a sum without a branch. With one loop over all sixteen sums, levels that saturate took 2.5 times as long.
+fn weigh_rows(k: usize, x: &[i32; 16]) -> [i32; 4]
+    requires { k < 4 }
+    ensures { result ≡ weighed_row k x.now 0 ∷ weighed_row k x.now 1 ∷ weighed_row k x.now 2 ∷ weighed_row k x.now 3 ∷ [] }
+{
+    array::from_fn(|i| weigh_row(k, x, i))
+}
+
 // Each row of a block transformed, and the block turned over: a second pass goes over the columns, and turns it back.
 fn apply_luma_transform_rows(x: &[i32; 16]) -> [i32; 16]
     ensures { result ≡ listed (turned (rows_of (placed x.now 0))) }
 {
-    array::from_fn(|n| weigh_row(n / 4, x, n % 4))
+    let y = [
+        weigh_rows(0, x),
+        weigh_rows(1, x),
+        weigh_rows(2, x),
+        weigh_rows(3, x),
+    ];
+    array::from_fn(|n| y[n / 4][n % 4])
 }
 
 // What the transform gave, with its DC, rounded and held in 16 bits.

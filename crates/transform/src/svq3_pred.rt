@@ -19,13 +19,14 @@ fn reconstruct_sample(pred: u8, residual: i16) -> u8
     (i16::from(pred) + residual).clamp(0, 255) as u8
 }
 
-// Four residuals from `from` on, added to the samples from `at` on.
+// Four residuals from `from` on, added to the samples from `at` on. No `zip`: after one over `iter_mut` the proof knows no element of the
+// slice.
 fn add_row(plane: &mut [u8], at: usize, residual: &[i16; 16], from: usize)
     requires { (at + 4 ≤ length plane.old) × (from + 4 ≤ 16) × Short residual.now }
     ensures { plane.new ≡ row plane.old at (reconstructed_at plane.old at residual.now from) 4 }
 {
-    for c in 0..4 {
-        plane[at + c] = reconstruct_sample(plane[at + c], residual[from + c]);
+    for (c, sample) in plane[at..at + 4].iter_mut().enumerate() {
+        *sample = reconstruct_sample(*sample, residual[from + c]);
     }
 }
 

@@ -8,7 +8,8 @@ use mir.Syntax.{w64}
 use mir.Val.{SFits, to_z}
 use mir.Facts.{to_z-of_z}
 use Rattle.ints.proofs.Fits.{back, cast-pos}
-use Rattle.ints.proofs.Linear.{mag-z, diff-z}
+use Rattle.std.proofs.lemmas.Int.{ints}
+use Rattle.ints.proofs.Linear.{mag-z}
 use Rattle.compensation.specs.InnerTaps.{lies_in}
 use Rattle.compensation.proofs.svq3_mc.lies_in.Goals.{Start}
 use Rattle.compensation.proofs.svq3_mc.lies_in.Goals as goal
@@ -21,7 +22,7 @@ last s =
 pub overflow_sub-result : goal.overflow_sub-result
 overflow_sub-result c =
     let a = c.args in
-    subst (SFits w64) (sym (last c)) (record { sfits = omega (arith, diff-z (pos a.side) (pos a.n), mag-z (pos a.side -ℤ pos a.n)) })
+    subst (SFits w64) (sym (last c)) (record { sfits = omega (arith, ints, mag-z (pos a.side -ℤ pos a.n)) })
 
 pub returns : goal.returns
 unfolding lies_in

@@ -6,4 +6,4 @@ use Rattle.compensation.proofs.Lanes.{cells}
 use Rattle.compensation.proofs.tiles.store_lanes.Given as goal
 
 abbrev pub invariant-loop-k : goal.invariant-loop-k
-invariant-loop-k g l = (length l.dst ≡ length l.initial.dst) × (l.dst ≡ cells l.initial.dst l.stride l.x l.y (tiled l.t l.at g.row.W) g.row.W l.k)
+invariant-loop-k g l = (length l.dst ≡ length l.initial.dst) × (l.dst ≡ cells l.initial.dst l.stride l.x l.y (tiled l.fn.t l.at g.row.W) g.row.W l.k)

@@ -2,7 +2,7 @@
 use Rattle.std.proofs.Common.{rules, pos, get_or}
 use Rattle.transform.specs.Residual.{placed, listed, rounded}
 use Rattle.transform.specs.InnerArrays.{short, shortened, finished}
-use Rattle.transform.proofs.Made.{made-by}
+use Rattle.ints.proofs.Made.{made-by}
 use Rattle.transform.proofs.svq3_dequant.finish_block.Goals as goal
 
 pub returns : goal.returns

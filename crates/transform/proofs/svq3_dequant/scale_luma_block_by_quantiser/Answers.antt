@@ -2,7 +2,7 @@
 use Rattle.std.proofs.Common.{rules, pos}
 use Rattle.transform.specs.Residual.{placed, listed, scaled}
 use Rattle.transform.specs.ChromaDc.{scaled_at}
-use Rattle.transform.proofs.Made.{made-by}
+use Rattle.ints.proofs.Made.{made-by}
 use Rattle.transform.proofs.svq3_dequant.scale_luma_block_by_quantiser.Goals as goal
 
 pub returns : goal.returns
