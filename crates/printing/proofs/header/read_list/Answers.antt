@@ -1,16 +1,9 @@
 -- `printing::header::read_list`: where the calls that are left end is where all of them do.
-use mathlib.Core.Path.{◌≡◌, sym, ◌∙◌}
-use Prim.Native.Nat.{◌-◌}
+use mathlib.Core.Path.{sym, ◌∙◌}
 use native.Mathlib.Omega.{arith}
 use Rattle.refusal.proofs.Answered.{handed}
 use Rattle.printing.proofs.Headers.{list-none, list-stop, list_on}
 use Rattle.printing.proofs.header.read_list.Goals as goal
-
-pub loop-i-init : goal.loop-i-init
-loop-i-init c =
-    let a = c.args in
-    let z : a.count - 0 ≡ a.count = omega arith in
-    (rw z, omega arith)
 
 pub loop-i-preserved : goal.loop-i-preserved
 loop-i-preserved c =
