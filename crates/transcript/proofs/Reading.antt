@@ -24,7 +24,7 @@ use Rattle.std.specs.Prelude.{Result, Ok, Err}
 use Rattle.refusal.proofs.Answered.{answered-got, answered-refused}
 use Rattle.refusal.proofs.Parts.{put-sets, part-length}
 use Rattle.levels.specs.Levels.{zeros}
-use Rattle.levels.proofs.Gots.{after-zero, after-after, map-after, map-map}
+use Rattle.levels.proofs.Gots.{after-after, map-after, map-map}
 use Rattle.levels.specs.Items.{item_start, item_count, item_place}
 use Rattle.record.specs.Parse.{field, read_signeds, parse_item}
 use Rattle.levels.specs.InnerAnswers.{Left}
@@ -60,12 +60,6 @@ module _ (out₀ : List ℤ) (count : ℕ) (s : List ℕ) (at : ℕ) where
     pub on : at ≤ p
     pub some : i ≤ count
     pub same : length out ≡ length out₀
-
-  pub taking : Taking 0 at out₀
-  taking =
-      let z : at - at ≡ 0 = omega arith in
-      let c : count - 0 ≡ count = omega arith in
-      record { is = rw (z, c) (sym (after-zero (map_got (sets out₀ 0) (read_signeds count (drop at s))))); on = omega arith; some = omega arith; same = refl }
 
 module _ {out₀ : List ℤ} {count : ℕ} {s : List ℕ} {at i p : ℕ} {out : List ℤ} (t : Taking out₀ count s at i p out) where
   next-number : i < count → (z : ℤ) (n : ℕ) → read_signed (drop p s) ≡ got z n

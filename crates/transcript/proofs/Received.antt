@@ -9,8 +9,8 @@ use native.Mathlib.Omega.{arith}
 use borrow.Author.Tests.{leb-true, ltb-true, le-leb, lt-leb}
 use lib.Dec.{leb, ltb}
 use lib.IntN.{ℤ, pos}
-use lib.ListN.{length, get_or, take, drop, set, length-set, length-drop, length-map, take-append-drop, get_or-map}
-use lib.Seq.{sets, length-take-le, get_or-set_same, get_or-set_other, set-set, set_comm, get_or-take, get_or-drop, ext_get_or}
+use lib.ListN.{length, get_or, take, drop, set, length-drop, length-map, take-append-drop, get_or-map}
+use lib.Seq.{sets, length-take-le, set-set, set_comm, get_or-take, get_or-drop, ext_get_or}
 use Rattle.refusal.specs.Got.{got, map_got}
 use Rattle.number.specs.SignedNumber.{received, read_signed}
 use Rattle.number.proofs.Numbers.{lt-or-le, read-last}
@@ -49,20 +49,6 @@ short-each l at (suc n) e k h =
     (lt-or-le k n)
 
 -- ---- read
--- one more of them
-module _ {l : List ℕ} {at n : ℕ} {t : List ℤ} (s : Received l at n t) where
-  pub received-turn : (v : ℤ) → n < 16 → v ≡ received (get_or l (at + n) 0) → Received l at (n + 1) (set t n v)
-  received-turn v h e = record {
-    size = length-set t n v ∙ s.size;
-    each = λ k i. ⊎_elim
-        (λ (j : k < n). get_or-set_other t n k v (pos 0) (λ (x : k ≡ n). omega arith) ∙ s.each k j)
-        (λ (j : n ≤ k).
-        let x : k ≡ n = omega arith in
-        let z : n < length t = omega (arith, s.size) in
-        rw x (get_or-set_same t n v (pos 0) z ∙ e))
-        (lt-or-le k n);
-  }
-
 shorts-read : (bs rest : List ℕ) → ((k : ℕ) → k < length bs → get_or bs k 0 < 128) → read_signeds (length bs) (bs ++ rest) ≡ got (map received bs) (length bs)
 unfolding read_signeds read_signed
 shorts-read [] rest h = refl

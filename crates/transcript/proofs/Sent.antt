@@ -10,8 +10,8 @@ use native.Mathlib.Omega.{arith}
 use borrow.Author.Tests.{leb-true, ltb-true, lt-ltb, le-ltb}
 use lib.Dec.{leb, ltb}
 use lib.IntN.{ℤ, pos, negsuc}
-use lib.ListN.{length, get_or, take, set, length-set, length-map, get_or-map}
-use lib.Seq.{sets, take-suc, length-take-le, get_or-set_same, get_or-set_other, get_or-take}
+use lib.ListN.{length, get_or, take, set, length-map, get_or-map}
+use lib.Seq.{sets, take-suc, length-take-le, get_or-take}
 use Rattle.ints.specs.Z.{when◌then◌else◌}
 use Rattle.number.specs.Number.{number}
 use Rattle.number.specs.SignedNumber.{sent, signed_number}
@@ -53,20 +53,6 @@ short-sent (negsuc n) h k =
     rw (r, le-ltb (2 * (127 - n)) 128 l) (omega arith, omega arith)
 
 -- ---- written
--- one more of them
-module _ {l : List ℤ} {first n : ℕ} {t : List ℕ} (s : Held l first n t) where
-  pub held-turn : (v : ℕ) → n < 16 → v ≡ held_of (get_or l (first + n) (pos 0)) → Held l first (n + 1) (set t n v)
-  held-turn v h e = record {
-    size = length-set t n v ∙ s.size;
-    each = λ k i. ⊎_elim
-        (λ (j : k < n). get_or-set_other t n k v 0 (λ (x : k ≡ n). omega arith) ∙ s.each k j)
-        (λ (j : n ≤ k).
-        let x : k ≡ n = omega arith in
-        let z : n < length t = omega (arith, s.size) in
-        rw x (get_or-set_same t n v 0 z ∙ e))
-        (lt-or-le k n);
-  }
-
 -- stored one after another
 pub stored-turn : {A : Type 0} (d : A) (out : List A) (at : ℕ) (t : List A) (n : ℕ) → n < length t → set (sets out at (take n t)) (at + n) (get_or t n d) ≡ sets out at (take (n + 1) t)
 stored-turn d out at t n h =

@@ -88,7 +88,8 @@ fn put_list(out: &mut [u8], numbers: &[i32], at: usize) -> usize
     put_signed_numbers(out, numbers, at)
 }
 
-// The four lists of a luma quadrant, which stand side by side from `place` on.
+// The four lists of a luma quadrant, which stand side by side from `place` on. By the number of a list, here and in put_ac: side_bytes has
+// list i at place + 16 · i, and over chunks the invariant would have to tie what is left of the iterator to that number.
 fn put_blocks(out: &mut [u8], levels: &[i32], at: usize, place: usize) -> usize
     requires { (place + 64 ≤ length levels.now) × (at + length (side_bytes ResidualBook.NormalScan 0 4 place levels.now) ≤ length out.old) }
     ensures { Written out.old at (side_bytes ResidualBook.NormalScan 0 4 place levels.now) result out.new }

@@ -175,7 +175,8 @@ pub fn mark_row(marks: &mut [u8], at: usize, n: usize)
     marks[at..at + n].fill(1);
 }
 
-// A skipped macroblock: its sixteen cells get vector 0, marked 1.
+// A skipped macroblock: its sixteen cells get vector 0, marked 1. Vectors and marks are written here, so that what picture's Cells
+// states of them, lent for reading, is a clause.
 pub fn mark_macroblock(mv: &mut [i32], marks: &mut [u8], grid: Grid, column: usize, row: usize)
     requires { (grid.cols ≤ 4096) × (length mv.old ≡ 2 * length marks.old) × Inside (4 * grid.cols) (4 * column) (4 * row) 4 4 (length marks.old) }
     ensures mv_after { mv.new ≡ stored_vectors mv.old (4 * grid.cols) (4 * column) (4 * row) 4 4 (pos 0) (pos 0) }

@@ -19,8 +19,8 @@ const HEIGHTS: u64 = 0x0101_0202_0204_0404;
 
 const COUNTS: u64 = 0x1008_0804_0202_0100;
 
-// A mode's byte. In this file a mode is its number, with the clause that it is at most 7, for the reason that state's Call gives: a type
-// that no other number has would ask more of callers.
+// A mode's byte. A mode is the number that a call has (its line is at state's Call), with the clause that it is at most 7: a type of its
+// own would be made of that number at each use.
 fn of_mode(table: u64, mode: u32) -> usize
     requires { mode ≤ 7 }
     ensures { result ≡ table / 2 ^ (8 * mode) % 256 }

@@ -43,7 +43,8 @@ impl Neighbours {
         self.vectors[k] = v;
     }
 
-    // The cell above and to the left of (x, y), as cell k; marked 0 off the picture.
+    // The cell above and to the left of (x, y), as cell k; marked 0 off the picture. That the rows above y lie in the marks is a clause
+    // here, in load_row and in copy_row: it ties a number to what is lent, and a struct of both would be taken apart in each.
     fn load_cell(&mut self, cells: Cells, x: usize, y: usize, k: usize)
         requires { (k < 30) × (y * (4 * cells.grid.cols) ≤ length cells.marks.now) }
         ensures loaded { (rows : ℕ) → y ≤ 4 * rows → shown_at self.new k ≡ above_left_of (lent_field cells.entry.grid.cols rows cells.entry.mv.now cells.entry.marks.now) x y }
@@ -69,7 +70,8 @@ impl Neighbours {
         }
     }
 
-    // The same of a row whose six cells all lie on the picture.
+    // The same of a row whose six cells all lie on the picture. By the number: pairs of a mark and of two numbers, counted, are of two parts
+    // that have to be named first, and that is longer.
     fn copy_row(&mut self, cells: Cells, column: usize, y: usize, at: usize)
         requires lent { (at + 6 ≤ 30) × (y * (4 * cells.grid.cols) ≤ length cells.marks.now) }
         requires whole { (0 < column) × (0 < y) × (column + 1 < cells.grid.cols) }

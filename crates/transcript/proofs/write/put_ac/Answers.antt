@@ -24,7 +24,7 @@ next-list ls i h =
     rw z at (first-list NormalScan 1 ls 264 8 i 16 refl h)
 
 pub loop-i-init : goal.loop-i-init
-loop-i-init c = let a = c.args in (still-all a.out.now a.at _ _ refl, omega arith)
+loop-i-init c = let a = c.args in still-all a.out.now a.at _ _ refl
 
 pub put_list-p-requires : goal.put_list-p-requires
 put_list-p-requires c =
@@ -32,7 +32,7 @@ put_list-p-requires c =
     let h = c.loop-i-test.true in
     let ls = c.args.levels.now in
     let e : 280 + 16 * l.i ≡ 265 + 16 * l.i + 15 = omega arith in
-    (omega (arith, part-most ls (265 + 16 * l.i) (280 + 16 * l.i) 15 e), rw (part-numbers ls (265 + 16 * l.i) (280 + 16 * l.i) 15 e) (still-fits l.invariant.0 (one ls l.i) (behind ls l.i) (next-list ls l.i h) c.requires))
+    (omega (arith, part-most ls (265 + 16 * l.i) (280 + 16 * l.i) 15 e), rw (part-numbers ls (265 + 16 * l.i) (280 + 16 * l.i) 15 e) (still-fits l.invariant (one ls l.i) (behind ls l.i) (next-list ls l.i h) c.requires))
 
 pub loop-i-preserved : goal.loop-i-preserved
 loop-i-preserved c =
@@ -40,10 +40,7 @@ loop-i-preserved c =
     let l = c.loop-i in
     let h = c.loop-i-test.true in
     let e : 280 + 16 * l.i ≡ 265 + 16 * l.i + 15 = omega arith in
-    (still-more l.invariant.0 (next-list ls l.i h) (rw (part-numbers ls (265 + 16 * l.i) (280 + 16 * l.i) 15 e) at c.put_list-p.ensures), omega (arith, h))
+    still-more l.invariant (next-list ls l.i h) (rw (part-numbers ls (265 + 16 * l.i) (280 + 16 * l.i) 15 e) at c.put_list-p.ensures)
 
 pub returns : goal.returns
-returns c = still-none c.loop-i.invariant.0 (no-list NormalScan 1 c.args.levels.now _ 8 c.loop-i.i c.loop-i-test.false)
-
-pub overflow_mul-i : goal.overflow_mul-i
-overflow_mul-i c = omega arith
+returns c = still-none c.loop-i.invariant (no-list NormalScan 1 c.args.levels.now _ 8 c.loop-i.i c.loop-i-test.false)

@@ -26,13 +26,7 @@ pub loop-i-init : goal.loop-i-init
 loop-i-init c =
     let a = c.args in
     let f : a.place + 16 * 0 ≡ a.place = omega arith in
-    (still-all a.out.now a.at _ _ (rw f), omega arith)
-
-pub overflow_mul-i : goal.overflow_mul-i
-overflow_mul-i c = record { fits = omega (arith, c.loop-i-test.true) }
-
-pub overflow_add-place : goal.overflow_add-place
-overflow_add-place c = record { fits = omega (arith, c.loop-i-test.true, c.requires.0) }
+    still-all a.out.now a.at _ _ (rw f)
 
 pub put_list-p-requires : goal.put_list-p-requires
 put_list-p-requires c =
@@ -40,7 +34,7 @@ put_list-p-requires c =
     let h = c.loop-i-test.true in
     let ls = c.args.levels.now in
     let from = c.args.place + 16 * l.i in
-    (part-most ls from (from + 16) 16 refl, rw (part-numbers ls from (from + 16) 16 refl) (still-fits l.invariant.0 (one ls c.args.place l.i) (behind ls c.args.place l.i) (next-list ls c.args.place l.i h) c.requires.1))
+    (part-most ls from (from + 16) 16 refl, rw (part-numbers ls from (from + 16) 16 refl) (still-fits l.invariant (one ls c.args.place l.i) (behind ls c.args.place l.i) (next-list ls c.args.place l.i h) c.requires.1))
 
 pub loop-i-preserved : goal.loop-i-preserved
 loop-i-preserved c =
@@ -48,7 +42,7 @@ loop-i-preserved c =
     let l = c.loop-i in
     let h = c.loop-i-test.true in
     let from = a.place + 16 * l.i in
-    (still-more l.invariant.0 (next-list a.levels.now a.place l.i h) (rw (part-numbers a.levels.now from (from + 16) 16 refl) at c.put_list-p.ensures), omega (arith, h))
+    still-more l.invariant (next-list a.levels.now a.place l.i h) (rw (part-numbers a.levels.now from (from + 16) 16 refl) at c.put_list-p.ensures)
 
 pub returns : goal.returns
-returns c = still-none c.loop-i.invariant.0 (no-list NormalScan 0 c.args.levels.now _ 4 c.loop-i.i c.loop-i-test.false)
+returns c = still-none c.loop-i.invariant (no-list NormalScan 0 c.args.levels.now _ 4 c.loop-i.i c.loop-i-test.false)

@@ -1,5 +1,5 @@
 -- `transcript::write::put_blocks`: the lists that are left, written at their place, give the whole.
-use Prim.Native.Nat.{◌+◌, ◌-◌, ◌*◌, ◌≤◌}
+use Prim.Native.Nat.{◌+◌, ◌-◌, ◌*◌}
 use Rattle.levels.specs.declared.svq3_coeff.ResidualBook.TheVariants.{NormalScan}
 use Rattle.record.specs.InnerSides.{side_bytes}
 use Rattle.transcript.proofs.Writing.{Still}
@@ -7,4 +7,4 @@ use Rattle.transcript.proofs.write.put_blocks.Given as goal
 
 abbrev pub invariant-loop-i : goal.invariant-loop-i
 invariant-loop-i l =
-    Still l.initial.out l.at (side_bytes NormalScan 0 4 l.place l.levels) l.out l.p (side_bytes NormalScan 0 (4 - l.i) (l.place + 16 * l.i) l.levels) × (l.i ≤ 4)
+    Still l.initial.out l.at (side_bytes NormalScan 0 4 l.place l.levels) l.out l.p (side_bytes NormalScan 0 (4 - l.i) (l.place + 16 * l.i) l.levels)
