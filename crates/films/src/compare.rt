@@ -1,28 +1,27 @@
 // What a record asks for is read, with what it is to leave, and made in every form that there is of it.
 use crate::decoded::read_back;
 use crate::head::{Film, Work};
-use crate::lend::{Form, agrees, unwritten};
+use crate::lend::{Case, Given, unwritten};
 use crate::replayed::check_agrees;
 use crate::start::{Planes, State, put};
+use crate::{decoded, ran};
 use lists::read;
 
 // A macroblock and a run by value and by the thin entry; a run's transcript is replayed, and a replay's checked alone.
-fn forms_agree(
-    start: &State,
-    end: &State,
-    reference: &Planes,
-    bits: &[u8],
-    list: &[u8],
-    expected: &[u8; 8192],
-    film: &Film,
-) -> bool {
-    let made = |form: Form| agrees(start, end, reference, bits, list, expected, film, form);
+fn forms_agree(case: Case) -> bool {
+    let given = case.given;
+    let film = given.film;
+    let expected = case.transcript;
     match film.work {
         Work::Macroblock(call) => {
-            made(Form::ByValue) & made(Form::Thin) & read_back(expected, film, call)
+            case.is_made(decoded::by_value, call)
+                & case.is_made(decoded::thin, call)
+                & read_back(expected, film, call)
         }
-        Work::Run { .. } => made(Form::ByValue) & made(Form::Thin) & made(Form::Replay),
-        Work::Replay { check } => made(Form::Replay) & check_agrees(expected, film, check),
+        Work::Run(ran) => {
+            case.is_made(ran::by_value, ran) & case.is_made(ran::thin, ran) & case.is_replayed()
+        }
+        Work::Replay { check } => case.is_replayed() & check_agrees(expected, film, check),
     }
 }
 
@@ -62,7 +61,20 @@ pub fn film_agrees(state: &mut State, reference: &Planes, film: &Film) -> bool {
     let mut end = *state;
     let written = take_transcript(&mut expected, film);
     let whole = take_end(&mut end, film);
-    let same = forms_agree(state, &end, reference, bits, list, &expected, film);
+    let given = Given {
+        film,
+        reference: reference.lent(film.lent),
+        bits,
+        list,
+    };
+    let same = forms_agree(
+        Case {
+            given,
+            start: state,
+            end: &end,
+            transcript: &expected,
+        },
+    );
     if let Work::Macroblock(_) = film.work {
         *state = end;
     }

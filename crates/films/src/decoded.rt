@@ -1,16 +1,14 @@
 // A macroblock, decoded by value or by the thin entry.
 use crate::head::Film;
+use crate::lend::Given;
 use macroblock::svq3_frame::decode_inter_mb;
 use macroblock::{MbReport, cursor_by};
+use picture::Picture;
 use refusal::Refusal;
-use state::{Call, Cursor, Frame};
+use state::{Call, Cursor};
 use thin::svq3_frame::decode_inter_mb_at;
 use transcript::check::check_record;
 use transcript::parse::{RecordStart, parse_place};
-
-fn stands_at(cursor: Cursor, expected: Cursor) -> bool {
-    (cursor.place == expected.place) & (cursor.quantiser == expected.quantiser)
-}
 
 // A refusal leaves the cursor where the call found it.
 fn answered(answer: Result<MbReport, Refusal>, cursor: Cursor, film: &Film) -> bool {
@@ -20,88 +18,57 @@ fn answered(answer: Result<MbReport, Refusal>, cursor: Cursor, film: &Film) -> b
                 & (report.place == film.after.place)
                 & (report.quantiser == film.after.quantiser)
                 & (report.fill == film.used.saturating_add(film.written))
-                & stands_at(cursor, film.after)
+                & (cursor == film.after)
         }
-        Err(why) => film.refuses(why) & stands_at(cursor, film.before),
+        Err(why) => film.refuses(why) & (cursor == film.before),
     }
 }
 
-// The answer, and where the call leaves the cursor.
-fn decode(
-    y: &mut [u8],
-    cb: &mut [u8],
-    cr: &mut [u8],
-    mv: &mut [i32],
-    marks: &mut [u8],
-    transcript: &mut [u8],
-    ry: &[u8],
-    rcb: &[u8],
-    rcr: &[u8],
-    bits: &[u8],
-    frame: Frame,
-    call: Call,
-    mut cursor: Cursor,
-    fill: usize,
-    thin: bool,
-) -> (Result<MbReport, Refusal>, Cursor) {
-    if thin {
-        let answer = decode_inter_mb_at(
-            y,
-            cb,
-            cr,
-            mv,
-            marks,
-            transcript,
-            ry,
-            rcb,
-            rcr,
-            bits,
-            &mut cursor,
-            frame,
-            call,
-            fill,
-        );
-        return (answer, cursor);
-    }
-    let Cursor { place, quantiser } = cursor;
+// By value: whether the macroblock is answered as the head says.
+pub fn by_value(picture: &mut Picture, transcript: &mut [u8], given: Given, call: Call) -> bool {
+    let film = given.film;
+    let reference = given.reference;
+    let Cursor { place, quantiser } = film.before;
     let answer = decode_inter_mb(
-        y, cb, cr, mv, marks, transcript, ry, rcb, rcr, bits, frame, call, quantiser, place, fill,
-    );
-    (answer, cursor_by(place, quantiser, answer))
-}
-
-// Whether the macroblock is answered as the head says.
-pub fn agrees(
-    y: &mut [u8],
-    cb: &mut [u8],
-    cr: &mut [u8],
-    mv: &mut [i32],
-    marks: &mut [u8],
-    transcript: &mut [u8],
-    ry: &[u8],
-    rcb: &[u8],
-    rcr: &[u8],
-    bits: &[u8],
-    film: &Film,
-    call: Call,
-    thin: bool,
-) -> bool {
-    let (answer, cursor) = decode(
-        y,
-        cb,
-        cr,
-        mv,
-        marks,
+        picture.y,
+        picture.cb,
+        picture.cr,
+        picture.mv,
+        picture.marks,
         transcript,
-        ry,
-        rcb,
-        rcr,
-        bits,
+        reference.y,
+        reference.cb,
+        reference.cr,
+        given.bits,
         film.frame,
         call,
-        film.before,
+        quantiser,
+        place,
         film.used,
-        thin,
+    );
+    answered(answer, cursor_by(place, quantiser, answer), film)
+}
+
+// The same by the thin entry.
+pub fn thin(picture: &mut Picture, transcript: &mut [u8], given: Given, call: Call) -> bool {
+    let film = given.film;
+    let reference = given.reference;
+    let mut cursor = film.before;
+    let answer = decode_inter_mb_at(
+        picture.y,
+        picture.cb,
+        picture.cr,
+        picture.mv,
+        picture.marks,
+        transcript,
+        reference.y,
+        reference.cb,
+        reference.cr,
+        given.bits,
+        &mut cursor,
+        film.frame,
+        call,
+        film.used,
     );
     answered(answer, cursor, film)
 }

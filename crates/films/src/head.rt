@@ -6,12 +6,18 @@ use picture::Grid;
 use refusal::Refusal;
 use state::{Call, Cursor, Flags, Frame, Lengths};
 
+// The calls that a run accepts, and the bits that they consume.
+#[derive(Clone, Copy)]
+pub struct Ran {
+    pub accepted: usize,
+    pub consumed: usize,
+}
+
 // What a record asks for.
 #[derive(Clone, Copy)]
 pub enum Work {
     Macroblock(Call),
-    // the calls that it accepts, and the bits that they consume
-    Run { accepted: usize, consumed: usize },
+    Run(Ran),
     // the number with which the check of the transcript alone refuses it, or 0
     Replay { check: u32 },
 }
@@ -59,115 +65,112 @@ impl Film {
     }
 }
 
-fn told(number: u32, detail: i64) -> Option<Told> {
-    if number == 0 {
-        None
-    } else {
-        Some(Told { number, detail })
+// The bytes of a head.
+#[derive(Clone, Copy)]
+pub struct Head(pub [u8; 80]);
+
+impl Head {
+    fn frame(&self) -> Frame {
+        let flags = self.0[1];
+        Frame {
+            grid: Grid {
+                cols: u32_at(&self.0, 4) as usize,
+                rows: u32_at(&self.0, 8) as usize,
+            },
+            flags: Flags {
+                halfpel: flags & 1 != 0,
+                thirdpel: flags & 2 != 0,
+                delta: flags & 4 != 0,
+            },
+        }
     }
-}
 
-// 32 bits, less 2^32 where byte 3 says that it is negative.
-fn detail_of(bytes: &[u8; 80]) -> i64 {
-    let low = i64::from(u32_at(bytes, 48));
-    if bytes[3] == 1 { low - 4294967296 } else { low }
-}
-
-fn frame_of(bytes: &[u8; 80]) -> Frame {
-    let flags = bytes[1];
-    Frame {
-        grid: Grid {
-            cols: u32_at(bytes, 4) as usize,
-            rows: u32_at(bytes, 8) as usize,
-        },
-        flags: Flags {
-            halfpel: flags & 1 != 0,
-            thirdpel: flags & 2 != 0,
-            delta: flags & 4 != 0,
-        },
+    fn cursor(&self, place: usize, quantiser: usize) -> Cursor
+        requires { (place ≤ 72) × (quantiser ≤ 76) }
+    {
+        Cursor {
+            place: u64_at(&self.0, place) as usize,
+            quantiser: u32_at(&self.0, quantiser),
+        }
     }
-}
 
-fn cursor_of(bytes: &[u8; 80], place: usize, quantiser: usize) -> Cursor
-    requires { (place ≤ 72) × (quantiser ≤ 76) }
-{
-    Cursor {
-        place: u64_at(bytes, place) as usize,
-        quantiser: u32_at(bytes, quantiser),
+    fn length(&self, at: usize) -> usize
+        requires { at ≤ 78 }
+    {
+        usize::from(u16_at(&self.0, at))
     }
-}
 
-fn length_at(bytes: &[u8; 80], at: usize) -> usize
-    requires { at ≤ 78 }
-{
-    usize::from(u16_at(bytes, at))
-}
-
-fn lent_of(bytes: &[u8; 80]) -> Lengths {
-    Lengths {
-        y: length_at(bytes, 64),
-        cb: length_at(bytes, 66),
-        cr: length_at(bytes, 68),
-        mv: length_at(bytes, 70),
-        marks: length_at(bytes, 72),
-        ry: length_at(bytes, 74),
-        rcb: length_at(bytes, 76),
-        rcr: length_at(bytes, 78),
+    fn lent(&self) -> Lengths {
+        Lengths {
+            y: self.length(64),
+            cb: self.length(66),
+            cr: self.length(68),
+            mv: self.length(70),
+            marks: self.length(72),
+            ry: self.length(74),
+            rcb: self.length(76),
+            rcr: self.length(78),
+        }
     }
-}
 
-// A run's head has the number of the replay's refusal apart from the run's own.
-fn replayed_of(bytes: &[u8; 80], work: Work) -> Replayed {
-    let number = match work {
-        Work::Run { .. } => u32_at(bytes, 20),
-        _ => u32::from(bytes[2]),
-    };
-    Replayed {
-        refusal: told(number, 0),
-        records: u32_at(bytes, 12) as usize,
-        quantiser: u32_at(bytes, 28),
+    // A detail is 32 bits, less 2^32 where byte 3 says that it is negative.
+    fn refusal(&self) -> Option<Told> {
+        let low = i64::from(u32_at(&self.0, 48));
+        let detail = if self.0[3] == 1 { low - 4294967296 } else { low };
+        Told::of(u32::from(self.0[2]), detail)
     }
-}
 
-fn film_of(bytes: &[u8; 80], work: Work) -> Film {
-    Film {
-        work,
-        frame: frame_of(bytes),
-        before: cursor_of(bytes, 32, 24),
-        after: cursor_of(bytes, 40, 28),
-        refusal: told(u32::from(bytes[2]), detail_of(bytes)),
-        replayed: replayed_of(bytes, work),
-        lent: lent_of(bytes),
-        list: length_at(bytes, 52),
-        bits: length_at(bytes, 56),
-        written: length_at(bytes, 58),
-        room: length_at(bytes, 60),
-        used: length_at(bytes, 62),
-        end: length_at(bytes, 54),
+    // A run's head has the number of the replay's refusal apart from the run's own.
+    fn replayed(&self, work: Work) -> Replayed {
+        let number = match work {
+            Work::Run(_) => u32_at(&self.0, 20),
+            _ => u32::from(self.0[2]),
+        };
+        Replayed {
+            refusal: Told::of(number, 0),
+            records: u32_at(&self.0, 12) as usize,
+            quantiser: u32_at(&self.0, 28),
+        }
     }
-}
 
-impl Record {
+    fn film(&self, work: Work) -> Film {
+        Film {
+            work,
+            frame: self.frame(),
+            before: self.cursor(32, 24),
+            after: self.cursor(40, 28),
+            refusal: self.refusal(),
+            replayed: self.replayed(work),
+            lent: self.lent(),
+            list: self.length(52),
+            bits: self.length(56),
+            written: self.length(58),
+            room: self.length(60),
+            used: self.length(62),
+            end: self.length(54),
+        }
+    }
+
     // None where the kind is not known.
-    pub fn of(bytes: &[u8; 80]) -> Option<Record> {
-        let macroblocks = u32_at(bytes, 4) as usize;
-        let work = match bytes[0] {
+    pub fn record(&self) -> Option<Record> {
+        let macroblocks = u32_at(&self.0, 4) as usize;
+        let work = match self.0[0] {
             1 => return Some(Record::Start(macroblocks)),
             2 => return Some(Record::Cells(macroblocks)),
             3 => Work::Macroblock(Call {
-                column: u32_at(bytes, 12),
-                row: u32_at(bytes, 16),
-                mode: u32_at(bytes, 20),
+                column: u32_at(&self.0, 12),
+                row: u32_at(&self.0, 16),
+                mode: u32_at(&self.0, 20),
             }),
-            4 => Work::Run {
-                accepted: u32_at(bytes, 12) as usize,
-                consumed: u32_at(bytes, 16) as usize,
-            },
+            4 => Work::Run(Ran {
+                accepted: u32_at(&self.0, 12) as usize,
+                consumed: u32_at(&self.0, 16) as usize,
+            }),
             5 => Work::Replay {
-                check: u32::from(bytes[3]),
+                check: u32::from(self.0[3]),
             },
             _ => return None,
         };
-        Some(Record::Film(film_of(bytes, work)))
+        Some(Record::Film(self.film(work)))
     }
 }

@@ -9,7 +9,7 @@ mod ran;
 mod replayed;
 mod start;
 
-use crate::head::{Record, Work};
+use crate::head::{Head, Record, Work};
 use crate::start::{Planes, State};
 use std::fmt;
 
@@ -38,7 +38,7 @@ impl Counts {
                 self.accepted = self.accepted.saturating_add(1 - refused);
                 self.refused = self.refused.saturating_add(refused);
             }
-            Work::Run { .. } => {
+            Work::Run(_) => {
                 self.runs = self.runs.saturating_add(1);
                 self.stopped = self.stopped.saturating_add(refused);
             }
@@ -88,9 +88,9 @@ fn main(rt: HostRuntime) {
     let mut reference = Planes::new();
     let mut counts = Counts::default();
     for _ in 0..lists::count() {
-        let mut bytes = [0u8; 80];
-        let whole = lists::read(&mut bytes, 80).is_some();
-        let record = Record::of(&bytes);
+        let mut head = Head([0; 80]);
+        let whole = lists::read(&mut head.0, 80).is_some();
+        let record = head.record();
         let same = agrees(&mut state, &mut reference, record);
         counts.count(record, whole & same);
     }

@@ -1,9 +1,11 @@
 // A run, made by value or by the thin entry.
-use crate::head::Film;
+use crate::head::{Film, Ran};
+use crate::lend::Given;
+use picture::Picture;
 use refusal::Refusal;
 use run::Report;
 use run::run::run;
-use state::{Cursor, Frame};
+use state::Cursor;
 use thin::{cursor_of, run_at};
 
 fn stopped(stop: Result<(), Refusal>, film: &Film) -> bool {
@@ -13,93 +15,59 @@ fn stopped(stop: Result<(), Refusal>, film: &Film) -> bool {
     }
 }
 
-fn reported(report: Report, cursor: Cursor, film: &Film, accepted: usize, consumed: usize) -> bool {
-    let after = film.after;
-    (report.accepted == accepted)
-        & (report.consumed == consumed)
-        & (report.place == after.place)
-        & (report.quantiser == after.quantiser)
+fn reported(report: Report, cursor: Cursor, film: &Film, ran: Ran) -> bool {
+    (report.accepted == ran.accepted)
+        & (report.consumed == ran.consumed)
+        & (report.place == film.after.place)
+        & (report.quantiser == film.after.quantiser)
         & (report.fill == film.written)
-        & (cursor.place == after.place)
-        & (cursor.quantiser == after.quantiser)
+        & (cursor == film.after)
         & stopped(report.stop, film)
 }
 
-// The report, and where the run leaves the cursor.
-fn make_run(
-    y: &mut [u8],
-    cb: &mut [u8],
-    cr: &mut [u8],
-    mv: &mut [i32],
-    marks: &mut [u8],
-    transcript: &mut [u8],
-    ry: &[u8],
-    rcb: &[u8],
-    rcr: &[u8],
-    bits: &[u8],
-    list: &[u8],
-    frame: Frame,
-    mut cursor: Cursor,
-    thin: bool,
-) -> (Report, Cursor) {
-    if thin {
-        let report = run_at(
-            y,
-            cb,
-            cr,
-            mv,
-            marks,
-            transcript,
-            ry,
-            rcb,
-            rcr,
-            bits,
-            list,
-            &mut cursor,
-            frame,
-        );
-        return (report, cursor);
-    }
-    let Cursor { place, quantiser } = cursor;
+// By value: whether the run is reported as the head says.
+pub fn by_value(picture: &mut Picture, transcript: &mut [u8], given: Given, ran: Ran) -> bool {
+    let film = given.film;
+    let reference = given.reference;
+    let Cursor { place, quantiser } = film.before;
     let report = run(
-        y, cb, cr, mv, marks, transcript, ry, rcb, rcr, bits, list, frame, quantiser, place,
+        picture.y,
+        picture.cb,
+        picture.cr,
+        picture.mv,
+        picture.marks,
+        transcript,
+        reference.y,
+        reference.cb,
+        reference.cr,
+        given.bits,
+        given.list,
+        film.frame,
+        quantiser,
+        place,
     );
-    (report, cursor_of(report))
+    reported(report, cursor_of(report), film, ran)
 }
 
-// Whether the run is reported as the head says.
-pub fn agrees(
-    y: &mut [u8],
-    cb: &mut [u8],
-    cr: &mut [u8],
-    mv: &mut [i32],
-    marks: &mut [u8],
-    transcript: &mut [u8],
-    ry: &[u8],
-    rcb: &[u8],
-    rcr: &[u8],
-    bits: &[u8],
-    list: &[u8],
-    film: &Film,
-    accepted: usize,
-    consumed: usize,
-    thin: bool,
-) -> bool {
-    let (report, cursor) = make_run(
-        y,
-        cb,
-        cr,
-        mv,
-        marks,
+// The same by the thin entry.
+pub fn thin(picture: &mut Picture, transcript: &mut [u8], given: Given, ran: Ran) -> bool {
+    let film = given.film;
+    let reference = given.reference;
+    let mut cursor = film.before;
+    let report = run_at(
+        picture.y,
+        picture.cb,
+        picture.cr,
+        picture.mv,
+        picture.marks,
         transcript,
-        ry,
-        rcb,
-        rcr,
-        bits,
-        list,
+        reference.y,
+        reference.cb,
+        reference.cr,
+        given.bits,
+        given.list,
+        &mut cursor,
         film.frame,
-        film.before,
-        thin,
     );
-    reported(report, cursor, film, accepted, consumed)
+    reported(report, cursor, film, ran)
 }

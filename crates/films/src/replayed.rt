@@ -1,6 +1,8 @@
 // A replay, and the replay of a run's transcript.
 use crate::head::{Film, Replayed};
+use crate::lend::Given;
 use lists::Told;
+use picture::Picture;
 use refusal::Refusal;
 use replay::ReplayReport;
 use replay::replay::replay;
@@ -17,24 +19,29 @@ fn answered(got: Result<ReplayReport, Refusal>, expected: Replayed) -> bool {
     }
 }
 
-// Whether the replay is answered as the head says.
+// Whether the replay is answered as expected.
 pub fn agrees(
-    y: &mut [u8],
-    cb: &mut [u8],
-    cr: &mut [u8],
-    mv: &mut [i32],
-    marks: &mut [u8],
-    ry: &[u8],
-    rcb: &[u8],
-    rcr: &[u8],
-    transcript: &[u8],
-    film: &Film,
+    picture: &mut Picture,
+    transcript: &mut [u8],
+    given: Given,
+    expected: Replayed,
 ) -> bool {
-    let quantiser = film.before.quantiser;
+    let film = given.film;
+    let reference = given.reference;
     let got = replay(
-        y, cb, cr, mv, marks, ry, rcb, rcr, transcript, film.frame, quantiser,
+        picture.y,
+        picture.cb,
+        picture.cr,
+        picture.mv,
+        picture.marks,
+        reference.y,
+        reference.cb,
+        reference.cr,
+        transcript,
+        film.frame,
+        film.before.quantiser,
     );
-    answered(got, film.replayed)
+    answered(got, expected)
 }
 
 // The check of a transcript alone, with the number of its refusal, or 0.

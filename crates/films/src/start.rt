@@ -2,8 +2,8 @@
 ghost use Rattle.std.specs.Prelude.{◌≡◌, ◌<◌, ◌≤◌};
 
 use lists::{read, take_numbers};
-use picture::{Block, Grid};
-use state::Call;
+use picture::{Block, Grid, Reference};
+use state::{Call, Lengths};
 
 #[derive(Clone, Copy, PartialEq)]
 pub struct Planes {
@@ -25,6 +25,15 @@ impl Planes {
             y: [0; 1600],
             cb: [0; 400],
             cr: [0; 400],
+        }
+    }
+
+    // As a reference: the start of each plane, as long as the head says, where the plane has as much.
+    pub fn lent(&self, lengths: Lengths) -> Reference<'_> {
+        Reference {
+            y: &self.y[..lengths.ry.min(1600)],
+            cb: &self.cb[..lengths.rcb.min(400)],
+            cr: &self.cr[..lengths.rcr.min(400)],
         }
     }
 

@@ -15,6 +15,17 @@ pub struct Told {
     pub detail: i64,
 }
 
+impl Told {
+    // No refusal has the number 0.
+    pub fn of(number: u32, detail: i64) -> Option<Told> {
+        if number == 0 {
+            None
+        } else {
+            Some(Told { number, detail })
+        }
+    }
+}
+
 impl From<Refusal> for Told {
     fn from(why: Refusal) -> Told {
         Told {

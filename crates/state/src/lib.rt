@@ -41,7 +41,7 @@ pub struct Frame {
 }
 
 // The caller's own record of place and quantiser.
-#[derive(Clone, Copy)]
+#[derive(Clone, Copy, PartialEq)]
 pub struct Cursor {
     pub place: usize,
     pub quantiser: u32,
