@@ -14,6 +14,7 @@ use crate::start::{Planes, State};
 use std::fmt;
 
 // How many there were of each kind, and how many records ended otherwise.
+// `parts` has its own: a form for both would keep the counts in an array and their words in a table, and no count would have a name.
 #[derive(Clone, Copy, Default)]
 struct Counts {
     macroblocks: u64,

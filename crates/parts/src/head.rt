@@ -39,7 +39,6 @@ impl Expected {
 // A block to be compensated: a chroma block's place, size and vector are luma's.
 #[derive(Clone, Copy)]
 pub struct Compensated {
-    pub chroma: bool,
     pub x: i32,
     pub y: i32,
     pub w: usize,
@@ -60,7 +59,8 @@ pub enum Question {
         at: usize,
         expected: Expected,
     },
-    Block(Compensated),
+    LumaBlock(Compensated),
+    ChromaBlock(Compensated),
     LumaResidual {
         quantiser: u32,
     },
@@ -69,86 +69,84 @@ pub enum Question {
     },
 }
 
-// A question, none where its kind is not known, and the counts of the bytes given and answered.
+impl Reader {
+    // None where the kind is not known.
+    fn of(kind: u8, option: u8) -> Option<Reader> {
+        let option = u32::from(option);
+        match kind {
+            1 => Some(Reader::UniversalCode),
+            2 => Some(Reader::SignedCode),
+            3 => Some(Reader::Precision {
+                halfpel: option % 2 == 1,
+                thirdpel: 2 <= option,
+            }),
+            4 => Some(Reader::Pattern),
+            5 if option == 0 => Some(Reader::LevelRun(ResidualBook::NormalScan)),
+            5 => Some(Reader::LevelRun(ResidualBook::ChromaDc)),
+            6 => Some(Reader::ResidualList(option % 2)),
+            7 => Some(Reader::ChromaDc),
+            8 => Some(Reader::Partitions(option % 8)),
+            _ => None,
+        }
+    }
+}
+
+// The bytes of a head.
 #[derive(Clone, Copy)]
-pub struct Head {
-    pub question: Option<Question>,
-    pub given: usize,
-    pub answered: usize,
-}
-
-fn reader_of(kind: u8, option: u8) -> Option<Reader> {
-    let option = u32::from(option);
-    match kind {
-        1 => Some(Reader::UniversalCode),
-        2 => Some(Reader::SignedCode),
-        3 => Some(Reader::Precision {
-            halfpel: option % 2 == 1,
-            thirdpel: 2 <= option,
-        }),
-        4 => Some(Reader::Pattern),
-        5 if option == 0 => Some(Reader::LevelRun(ResidualBook::NormalScan)),
-        5 => Some(Reader::LevelRun(ResidualBook::ChromaDc)),
-        6 => Some(Reader::ResidualList(option % 2)),
-        7 => Some(Reader::ChromaDc),
-        8 => Some(Reader::Partitions(option % 8)),
-        _ => None,
-    }
-}
-
-// No detail of a reader is negative, or wider than 32 bits.
-fn expected_of(bytes: &[u8; 32]) -> Expected {
-    let told = Told {
-        number: u32::from(bytes[2]),
-        detail: i64::from(u32_at(bytes, 16)),
-    };
-    Expected {
-        refusal: if bytes[2] == 0 { None } else { Some(told) },
-        next: u64_at(bytes, 24) as usize,
-    }
-}
-
-fn block_of(bytes: &[u8; 32]) -> Compensated {
-    Compensated {
-        chroma: bytes[0] == 18,
-        x: i32_at(bytes, 8),
-        y: i32_at(bytes, 12),
-        w: usize::from(bytes[2]),
-        h: usize::from(bytes[3]),
-        vx: i32_at(bytes, 16),
-        vy: i32_at(bytes, 20),
-    }
-}
-
-fn question_of(bytes: &[u8; 32]) -> Option<Question> {
-    let quantiser = u32::from(bytes[1]);
-    match bytes[0] {
-        16 => Some(Question::Plane {
-            width: u32_at(bytes, 8) as usize,
-            height: u32_at(bytes, 12) as usize,
-        }),
-        17 | 18 => Some(Question::Block(block_of(bytes))),
-        19 => Some(Question::LumaResidual { quantiser }),
-        20 => Some(Question::ChromaResidual { quantiser }),
-        kind => Some(Question::Bits {
-            reader: reader_of(kind, bytes[1])?,
-            at: u64_at(bytes, 8) as usize,
-            expected: expected_of(bytes),
-        }),
-    }
-}
+pub struct Head(pub [u8; 32]);
 
 impl Head {
-    // A reader's head counts its values, of four bytes each.
-    pub fn of(bytes: &[u8; 32]) -> Head {
-        Head {
-            question: question_of(bytes),
-            given: u32_at(bytes, 4) as usize,
-            answered: if bytes[0] < 16 {
-                4 * usize::from(bytes[3])
-            } else {
-                u32_at(bytes, 24) as usize
-            },
+    // No detail of a reader is negative, or wider than 32 bits.
+    fn expected(&self) -> Expected {
+        let detail = i64::from(u32_at(&self.0, 16));
+        Expected {
+            refusal: Told::of(u32::from(self.0[2]), detail),
+            next: u64_at(&self.0, 24) as usize,
+        }
+    }
+
+    fn compensated(&self) -> Compensated {
+        Compensated {
+            x: i32_at(&self.0, 8),
+            y: i32_at(&self.0, 12),
+            w: usize::from(self.0[2]),
+            h: usize::from(self.0[3]),
+            vx: i32_at(&self.0, 16),
+            vy: i32_at(&self.0, 20),
+        }
+    }
+
+    // None where the kind is not known.
+    pub fn question(&self) -> Option<Question> {
+        let quantiser = u32::from(self.0[1]);
+        match self.0[0] {
+            16 => Some(Question::Plane {
+                width: u32_at(&self.0, 8) as usize,
+                height: u32_at(&self.0, 12) as usize,
+            }),
+            17 => Some(Question::LumaBlock(self.compensated())),
+            18 => Some(Question::ChromaBlock(self.compensated())),
+            19 => Some(Question::LumaResidual { quantiser }),
+            20 => Some(Question::ChromaResidual { quantiser }),
+            kind => Some(Question::Bits {
+                reader: Reader::of(kind, self.0[1])?,
+                at: u64_at(&self.0, 8) as usize,
+                expected: self.expected(),
+            }),
+        }
+    }
+
+    // How many bytes are given.
+    pub fn given(&self) -> usize {
+        u32_at(&self.0, 4) as usize
+    }
+
+    // How many are answered. A reader's head counts its values, of four bytes each.
+    pub fn answered(&self) -> usize {
+        if self.0[0] < 16 {
+            4 * usize::from(self.0[3])
+        } else {
+            u32_at(&self.0, 24) as usize
         }
     }
 }

@@ -8,6 +8,7 @@ mod reading;
 
 use crate::head::{Head, Question};
 use bits::Bits;
+use compensation::svq3_mc::{motion_compensate_block, motion_compensate_chroma_block};
 use std::fmt;
 
 // The plane of the blocks that follow: the first `size` samples.
@@ -29,6 +30,7 @@ impl Plane {
 }
 
 // How many questions there were, and how many were answered otherwise.
+// `films` has its own: a form for both would keep the counts in an array and their words in a table, and no count would have a name.
 #[derive(Clone, Copy, Default)]
 struct Counts {
     bits: u64,
@@ -60,19 +62,19 @@ impl fmt::Display for Counts {
 }
 
 // Whether the answer is the published one. A question that is not whole, or not known, differs.
-fn agrees(head: Head, plane: &mut Plane) -> bool {
-    if let Some(Question::Plane { width, height }) = head.question {
-        return plane.take(width, height, head.given);
+fn agrees(head: Head, question: Option<Question>, plane: &mut Plane) -> bool {
+    if let Some(Question::Plane { width, height }) = question {
+        return plane.take(width, height, head.given());
     }
     let mut given = [0u8; 480];
     let mut answered = [0u8; 256];
-    let Some(given) = lists::read(&mut given, head.given) else {
+    let Some(given) = lists::read(&mut given, head.given()) else {
         return false;
     };
-    let Some(answered) = lists::read(&mut answered, head.answered) else {
+    let Some(answered) = lists::read(&mut answered, head.answered()) else {
         return false;
     };
-    match head.question {
+    match question {
         Some(
             Question::Bits {
                 reader,
@@ -80,7 +82,12 @@ fn agrees(head: Head, plane: &mut Plane) -> bool {
                 expected,
             },
         ) => reading::agrees(reader, at, expected, Bits { bytes: given }, answered),
-        Some(Question::Block(block)) => block::agrees(block, plane, answered),
+        Some(Question::LumaBlock(block)) => {
+            block::agrees(motion_compensate_block, block, plane, answered)
+        }
+        Some(Question::ChromaBlock(block)) => {
+            block::agrees(motion_compensate_chroma_block, block, plane, answered)
+        }
         Some(Question::LumaResidual { quantiser }) => added::luma_agrees(
             quantiser, given, answered,
         ),
@@ -100,11 +107,11 @@ fn main(rt: HostRuntime) {
     };
     let mut counts = Counts::default();
     for _ in 0..lists::count() {
-        let mut bytes = [0u8; 32];
-        let whole = lists::read(&mut bytes, 32).is_some();
-        let head = Head::of(&bytes);
-        let same = agrees(head, &mut plane);
-        counts.count(head.question, whole & same);
+        let mut head = Head([0; 32]);
+        let whole = lists::read(&mut head.0, 32).is_some();
+        let question = head.question();
+        let same = agrees(head, question, &mut plane);
+        counts.count(question, whole & same);
     }
     // Where the line cannot be written, it is missed by whoever compares what was printed.
     let _ = println!(rt; "{counts}");
