@@ -1,5 +1,6 @@
 #![tactic(auto)]
 // What a host calls: numbers and slices in, one number out, and counts. The crate desk_c exports it for C.
+// The entries have up to 21 parameters, since C lends each slice and gives each number by itself.
 ghost use Rattle.std.specs.Prelude.{◌≡◌, length};
 ghost use Rattle.compensation.specs.Block.{block_answer, block_out};
 ghost use Rattle.transcript.specs.Check.{checked};

@@ -1,5 +1,6 @@
 #![tactic(auto)]
 // The desk's entries for C: each calls the function of its name in `desk`, and ensures what that ensures. include/svq3_desk.h declares them.
+// The entries have up to 21 parameters, since C lends each slice and gives each number by itself.
 ghost use Rattle.std.specs.Prelude.{◌≡◌, length};
 ghost use Rattle.compensation.specs.Block.{block_answer, block_out};
 ghost use Rattle.transcript.specs.Check.{checked};

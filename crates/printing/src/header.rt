@@ -67,16 +67,17 @@ pub fn read_list(input: &[u8], at: usize, count: u32) -> Result<usize, Refusal>
 }
 
 // Flags are 1 half + 2 third.
-pub fn frame_of(h: Header) -> Frame
-    ensures { result ≡ frame_of h }
-{
-    let grid = h.grid;
-    Frame {
-        grid,
-        flags: Flags {
-            halfpel: h.flags % 2 == 1,
-            thirdpel: h.flags / 2 == 1,
-            delta: h.delta == 1,
-        },
+impl From<Header> for Frame {
+    ghost from_gives = { λ h frame. frame ≡ frame_of h };
+
+    fn from(h: Header) -> Frame {
+        Frame {
+            grid: h.grid,
+            flags: Flags {
+                halfpel: h.flags % 2 == 1,
+                thirdpel: h.flags / 2 == 1,
+                delta: h.delta == 1,
+            },
+        }
     }
 }

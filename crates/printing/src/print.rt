@@ -9,28 +9,39 @@ ghost use Rattle.printing.specs.Header.{HeaderRange};
 ghost use Rattle.printing.specs.Text.{bits_line};
 ghost use Rattle.printing.specs.Print.{start, room, lines_of, stop_lines, printed_run, printed};
 
-use crate::header::{Header, frame_of, read_header, read_list};
+use crate::header::{Header, read_header, read_list};
 use crate::text::{put_bits, put_hex_line, put_refused};
 use picture::Grid;
 use refusal::Refusal;
 use run::Report;
 use run::run::run;
+use state::Frame;
 use transcript::check::check_record;
 
+// The transcript of a run, and the grid that its records are of.
+#[derive(Clone, Copy)]
+struct Transcript<'a> {
+    bytes: &'a [u8],
+    grid: Grid,
+    ghost wide: { grid.cols ≤ 4096 },
+    ghost high: { grid.rows ≤ 4096 },
+}
+
 // The records of a transcript, each on a line.
-fn put_records(out: &mut [u8], transcript: &[u8], at: usize, grid: Grid) -> usize
-    requires cols_bound { (grid.cols ≤ 4096) × (grid.rows ≤ 4096) × Recorded grid.cols grid.rows transcript.now }
-    requires transcript_in_bounds { at + length (lines_of (records grid.cols grid.rows transcript.now)) ≤ length out.old }
-    ensures { Written out.old at (lines_of (records grid.cols grid.rows transcript.now)) result out.new }
+fn put_records(out: &mut [u8], transcript: Transcript, at: usize) -> usize
+    requires recorded { Recorded transcript.grid.cols transcript.grid.rows transcript.bytes.now }
+    requires room { at + length (lines_of (records transcript.grid.cols transcript.grid.rows transcript.bytes.now)) ≤ length out.old }
+    ensures { Written out.old at (lines_of (records transcript.entry.grid.cols transcript.entry.grid.rows transcript.entry.bytes.now)) result out.new }
 {
+    let bytes = transcript.bytes;
     let mut p = at;
     let mut i = 0;
     // a record says where the next one begins: no range counts them
-    while i < transcript.len() {
-        let Ok(next) = check_record(transcript, i, grid) else {
+    while i < bytes.len() {
+        let Ok(next) = check_record(bytes, i, transcript.grid) else {
             return p;
         };
-        p = put_hex_line(out, &transcript[i..next], p);
+        p = put_hex_line(out, &bytes[i..next], p);
         i = next;
     }
     p
@@ -48,19 +59,25 @@ fn put_stop(out: &mut [u8], at: usize, stop: Result<(), Refusal>) -> usize
 
 // What a run did: its records, its bits, and the refusal that stopped it.
 fn put_run(
-    out: &mut [u8],
-    transcript: &[u8],
-    grid: Grid,
+    out: &mut [u8; 100352],
+    transcript: Transcript,
     consumed: usize,
     stop: Result<(), Refusal>,
 ) -> usize
-    requires cols_bound { (grid.cols ≤ 4096) × (grid.rows ≤ 4096) × Recorded grid.cols grid.rows transcript.now }
-    requires transcript_len_bound { (length transcript.now ≤ 33424) × (length out.old ≡ 100352) }
-    ensures { (result ≤ 100352) × Written out.old 0 (lines_of (records grid.cols grid.rows transcript.now) ++ bits_line consumed ++ stop_lines stop) result out.new }
+    requires { Recorded transcript.grid.cols transcript.grid.rows transcript.bytes.now × (length transcript.bytes.now ≤ 33424) }
+    ensures { (result ≤ 100352) × Written out.old 0 (lines_of (records transcript.entry.grid.cols transcript.entry.grid.rows transcript.entry.bytes.now) ++ bits_line consumed ++ stop_lines stop) result out.new }
 {
-    let p = put_records(out, transcript, 0, grid);
+    let p = put_records(out, transcript, 0);
     let p = put_bits(out, p, consumed);
     put_stop(out, p, stop)
+}
+
+// Macroblocks of the header's grid.
+fn macroblocks(h: Header) -> usize
+    requires { HeaderRange h }
+    ensures { (result ≡ h.grid.cols * h.grid.rows) × (result ≤ 16) }
+{
+    h.grid.cols * h.grid.rows
 }
 
 // The run of a list from the printer's start.
@@ -76,7 +93,7 @@ fn run_start(transcript: &mut [u8], list: &[u8], bits: &[u8], h: Header) -> Repo
     let ry = [128u8; 4096];
     let rcb = [128u8; 1024];
     let rcr = [128u8; 1024];
-    let n = h.grid.cols * h.grid.rows;
+    let n = macroblocks(h);
     let luma = 256 * n;
     let chroma = 64 * n;
     let numbers = 32 * n;
@@ -93,27 +110,30 @@ fn run_start(transcript: &mut [u8], list: &[u8], bits: &[u8], h: Header) -> Repo
         &rcr[..chroma],
         bits,
         list,
-        frame_of(h),
+        Frame::from(h),
         h.quantiser,
         0,
     )
 }
 
 // The run of a list, printed.
-fn print_list(out: &mut [u8], list: &[u8], bits: &[u8], h: Header) -> usize
-    requires { HeaderRange h × (length out.old ≡ 100352) }
+fn print_list(out: &mut [u8; 100352], list: &[u8], bits: &[u8], h: Header) -> usize
+    requires { HeaderRange h }
     ensures { (result ≤ 100352) × Written out.old 0 (printed_run (start h) (ran_list (start h) list.now bits.now 0 room)) result out.new }
 {
     let mut transcript = [0u8; 33424];
     let report = run_start(&mut transcript, list, bits, h);
     let fill = report.fill;
     let stop = report.stop;
-    put_run(out, &transcript[..fill], h.grid, report.consumed, stop)
+    let transcript = Transcript {
+        bytes: &transcript[..fill],
+        grid: h.grid,
+    };
+    put_run(out, transcript, report.consumed, stop)
 }
 
 // The whole input, printed.
-fn print_input(out: &mut [u8], input: &[u8]) -> usize
-    requires { length out.old ≡ 100352 }
+fn print_input(out: &mut [u8; 100352], input: &[u8]) -> usize
     ensures { (result ≤ 100352) × Written out.old 0 (printed input.now) result out.new }
 {
     match read_header(input) {

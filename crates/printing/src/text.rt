@@ -5,6 +5,7 @@ ghost use Rattle.printing.specs.Text.{hex_digit, hex_line, decimal, count_line, 
 
 use refusal::{Refusal, number_of};
 
+// The library's digit, `char::from_digit`, is an Option of a char, which would have to be taken apart for the byte.
 fn hex_digit(n: u8) -> u8
     requires { n < 16 }
     ensures { result ≡ hex_digit n }
@@ -37,7 +38,7 @@ pub fn put_hex_line(out: &mut [u8], bytes: &[u8], at: usize) -> usize
     p + 1
 }
 
-// A number in decimal.
+// A number in decimal. The library prints without a heap to a writer, and says what is written only where that answers Ok, but not that it does.
 fn put_decimal(out: &mut [u8], at: usize, n: usize) -> usize
     requires { at + length (decimal n) ≤ length out.old }
     ensures { Written out.old at (decimal n) result out.new }

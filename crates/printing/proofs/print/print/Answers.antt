@@ -11,5 +11,5 @@ returns-then-input-le32768 c =
     let e = c.print_input.ensures in
     (e.0, written_as (ap printed (sym (take_all 32768 c.args.input.now c.if-input-le32768.true))) e.1)
 
-pub slice_bounds-print_input-end-3 : goal.slice_bounds-print_input-end-3
-slice_bounds-print_input-end-3 c = sym (length-take-le 32768 c.args.input.now (omega (arith, c.if-input-le32768.false)))
+pub slice_bounds-print_input-end : goal.slice_bounds-print_input-end
+slice_bounds-print_input-end c = sym (length-take-le 32768 c.args.input.now (omega (arith, c.if-input-le32768.false)))

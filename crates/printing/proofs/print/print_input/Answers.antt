@@ -15,7 +15,7 @@ ends-within : (c : In-Ok-read_list) → c.in-Ok-read_list.end ≤ length c.args.
 ends-within c = within c.args.input.now (sym c.in-Ok.is ∙ c.read_header.ensures) (sym c.in-Ok-read_list.is ∙ c.read_list.ensures)
 
 pub print_list-requires : goal.print_list-requires
-print_list-requires c = (range c.args.input.now (sym c.in-Ok.is ∙ c.read_header.ensures), c.requires)
+print_list-requires c = range c.args.input.now (sym c.in-Ok.is ∙ c.read_header.ensures)
 
 pub returns-in-Ok-read_list : goal.returns-in-Ok-read_list
 returns-in-Ok-read_list c =
@@ -44,7 +44,7 @@ pub slice_bounds-print_list-start-in-Ok-read_list : goal.slice_bounds-print_list
 slice_bounds-print_list-start-in-Ok-read_list c = ends-within (goal.at.slice_bounds-print_list-start-in-Ok-read_list c).In-Ok-read_list
 
 pub put_refused-requires : goal.put_refused-requires
-put_refused-requires c = omega (arith, refused-length c.in-Err-read_list.why, c.requires)
+put_refused-requires c = omega (arith, refused-length c.in-Err-read_list.why)
 
 pub put_refused-requires-in-Err : goal.put_refused-requires-in-Err
-put_refused-requires-in-Err c = omega (arith, refused-length c.in-Err.why, c.requires)
+put_refused-requires-in-Err c = omega (arith, refused-length c.in-Err.why)

@@ -9,16 +9,16 @@ pub slice_bounds-transcript-end : goal.slice_bounds-transcript-end
 unfolding room
 slice_bounds-transcript-end c = let a = c.args in fill-there a.h a.list.now a.bits.now c.run_start-report.ensures
 
-pub slice_bounds-put_run-end : goal.slice_bounds-put_run-end
+pub slice_bounds-transcript-end-2 : goal.slice_bounds-transcript-end-2
 unfolding room
-slice_bounds-put_run-end c = let a = c.args in part_count a.h a.list.now a.bits.now c.run_start-report.ensures
+slice_bounds-transcript-end-2 c = let a = c.args in part_count a.h a.list.now a.bits.now c.run_start-report.ensures
 
 pub put_run-requires : goal.put_run-requires
 unfolding room
 put_run-requires c =
     let a = c.args in
     let e = c.run_start-report.ensures in
-    record { cols_bound = (omega (arith, c.requires.0.cols), omega (arith, c.requires.0.rows), part-recorded a.h a.list.now a.bits.now e); transcript_len_bound = (part-most a.h a.list.now a.bits.now e, c.requires.1) }
+    (part-recorded a.h a.list.now a.bits.now e, part-most a.h a.list.now a.bits.now e)
 
 pub returns : goal.returns
 unfolding room

@@ -13,7 +13,7 @@ use Rattle.printing.proofs.print.put_run.Goals.{Start}
 use Rattle.printing.proofs.print.put_run.Goals as goal
 
 abbrev records-of : Start → List ℕ
-records-of s = lines_of (records s.args.grid.cols s.args.grid.rows s.args.transcript.now)
+records-of s = lines_of (records s.args.transcript.grid.cols s.args.transcript.grid.rows s.args.transcript.bytes.now)
 
 abbrev all_of : Start → List ℕ
 all_of s = records-of s ++ bits_line s.args.consumed ++ stop_lines s.args.stop
@@ -23,10 +23,10 @@ abbrev ToWrite : Start → List ℕ → ℕ → List (List ℕ) → Type 0
 ToWrite s = Due s.args.out.now 0 (all_of s)
 
 most : (s : Start) → 0 + length (all_of s) ≤ 100352
-most s = omega (arith, run_length s.args.grid.cols s.args.grid.rows s.requires.cols_bound.0 s.requires.cols_bound.1 s.requires.cols_bound.2 s.requires.transcript_len_bound.0 s.args.consumed s.ranges.consumed.fits s.args.stop)
+most s = omega (arith, run_length s.args.transcript.grid.cols s.args.transcript.grid.rows s.args.transcript.wide s.args.transcript.high s.requires.0 s.requires.1 s.args.consumed s.ranges.consumed.fits s.args.stop)
 
 room : (s : Start) → 0 + length (all_of s) ≤ length s.args.out.now
-room s = omega (arith, most s, s.requires.transcript_len_bound.1)
+room s = omega (arith, most s, s.told-out)
 
 d1 : (s : Start) → ToWrite s s.args.out.now 0 (records-of s ∷ bits_line s.args.consumed ∷ stop_lines s.args.stop ∷ [])
 d1 s = due_all s.args.out.now 0 _ _ (three-parts (records-of s) (bits_line s.args.consumed) (stop_lines s.args.stop))
@@ -34,7 +34,7 @@ d1 s = due_all s.args.out.now 0 _ _ (three-parts (records-of s) (bits_line s.arg
 pub put_records-p-requires : goal.put_records-p-requires
 put_records-p-requires c =
     let s = (goal.at.put_records-p-requires c).Start in
-    record { cols_bound = c.requires.cols_bound; transcript_in_bounds = due-fits (d1 s) (room s) }
+    record { recorded = c.requires.0; room = due-fits (d1 s) (room s) }
 
 pub put_bits-p-requires : goal.put_bits-p-requires
 put_bits-p-requires c =
