@@ -13,6 +13,3 @@ overflow_cast-result c = record { sfits = omega (arith, few-records _ _ _ (sym c
 
 pub returns-in-Ok : goal.returns-in-Ok
 returns-in-Ok c = to_z_pos w64 (omega (arith, few-records _ _ _ (sym c.in-Ok.is ∙ c.check_transcript.ensures))) ∙ ap check_code (sym c.in-Ok.is ∙ c.check_transcript.ensures)
-
-pub returns-in-Err : goal.returns-in-Err
-returns-in-Err c = back w64 c.refused.type_inv c.refused.ensures ∙ ap check_code (sym c.in-Err.is ∙ c.check_transcript.ensures)

@@ -20,6 +20,3 @@ returns c =
     let k = c.decode_inter_mb-answer in
     let t = c.tell_macroblock in
     mb-done (frame_of c.args.cols c.args.rows c.args.flags c.args.delta) c.args.quantiser c.args.ry.now c.args.rcb.now c.args.rcr.now (S (goal.at.returns c).Start) f.result f.ensures k.new.y k.new.cb k.new.cr k.new.mv k.new.marks k.new.transcript t.new.counts _ (call_of c.args.column c.args.row c.args.mode) c.args.bits.now c.args.place c.args.fill k.result c.if-counts-lt-MB_COUNTS.false k.ensures (back w64 t.type_inv t.ensures.0) t.ensures.1
-
-pub tell_macroblock-requires : goal.tell_macroblock-requires
-tell_macroblock-requires c = c.if-counts-lt-MB_COUNTS.false

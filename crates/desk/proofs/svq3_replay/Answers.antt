@@ -20,6 +20,3 @@ returns c =
     let k = c.replay-answer in
     let t = c.tell_replay in
     replay-done (frame_of c.args.cols c.args.rows 0 0) c.args.quantiser c.args.ry.now c.args.rcb.now c.args.rcr.now (S (goal.at.returns c).Start) f.result f.ensures k.new.y k.new.cb k.new.cr k.new.mv k.new.marks c.args.transcript.now t.new.counts _ k.result c.if-counts-lt-REPLAY_COUNTS.false k.ensures (back w64 t.type_inv t.ensures.0) t.ensures.1
-
-pub tell_replay-requires : goal.tell_replay-requires
-tell_replay-requires c = c.if-counts-lt-REPLAY_COUNTS.false

@@ -20,6 +20,3 @@ returns c =
     let k = c.run-report in
     let t = c.tell_run in
     run-done (frame_of c.args.cols c.args.rows c.args.flags c.args.delta) c.args.quantiser c.args.ry.now c.args.rcb.now c.args.rcr.now (S (goal.at.returns c).Start) f.result f.ensures k.new.y k.new.cb k.new.cr k.new.mv k.new.marks k.new.transcript t.new.counts _ c.args.calls.now c.args.bits.now c.args.place k.result c.if-counts-lt-RUN_COUNTS.false k.ensures (back w64 t.type_inv t.ensures.0) t.ensures.1
-
-pub tell_run-requires : goal.tell_run-requires
-tell_run-requires c = c.if-counts-lt-RUN_COUNTS.false

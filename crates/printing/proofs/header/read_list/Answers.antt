@@ -6,12 +6,6 @@ use Rattle.refusal.proofs.Answered.{handed}
 use Rattle.printing.proofs.Headers.{list-none, list-stop, list_on}
 use Rattle.printing.proofs.header.read_list.Goals as goal
 
-pub loop-i-init : goal.loop-i-init
-loop-i-init c =
-    let a = c.args in
-    let z : a.count - 0 ≡ a.count = omega arith in
-    (rw z, omega arith)
-
 pub loop-i-preserved : goal.loop-i-preserved
 loop-i-preserved c =
     let a = c.args in

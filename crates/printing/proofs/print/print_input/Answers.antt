@@ -31,9 +31,6 @@ returns-in-Err c =
     let w = c.put_refused-in-Err.ensures in
     (omega (arith, w.moved, refused-length c.in-Err.why), written_as (header_refused c.args.input.now (sym c.in-Err.is ∙ c.read_header.ensures)) w)
 
-pub read_header-requires : goal.read_header-requires
-read_header-requires c = tt
-
 pub slice_bounds-print_list-end : goal.slice_bounds-print_list-end
 slice_bounds-print_list-end c = ends-within (goal.at.slice_bounds-print_list-end c).In-Ok-read_list
 

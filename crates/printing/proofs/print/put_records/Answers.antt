@@ -32,12 +32,6 @@ loop-i-preserved c = on c.loop-i.invariant c.args.transcript.wide c.args.transcr
 pub loop-i-init : goal.loop-i-init
 loop-i-init c = begin c.requires.recorded c.args.out.now c.args.at
 
-pub slice_bounds-put_hex_line-count : goal.slice_bounds-put_hex_line-count
-slice_bounds-put_hex_line-count c = omega (arith, put-start (goal.at.slice_bounds-put_hex_line-count c).In-Ok)
-
-pub slice_bounds-put_hex_line-start : goal.slice_bounds-put_hex_line-start
-slice_bounds-put_hex_line-start c = omega (arith, put-start (goal.at.slice_bounds-put_hex_line-start c).In-Ok, put-end (goal.at.slice_bounds-put_hex_line-start c).In-Ok)
-
 pub slice_bounds-put_hex_line-end : goal.slice_bounds-put_hex_line-end
 slice_bounds-put_hex_line-end c = omega (arith, put-end (goal.at.slice_bounds-put_hex_line-end c).In-Ok)
 

@@ -18,35 +18,17 @@ end_fits c =
 pub loop-b-init : goal.loop-b-init
 loop-b-init c = let a = c.args in still-all a.out.now a.at _ _ (hex-all a.bytes.now)
 
-pub hex_digit-requires : goal.hex_digit-requires
-hex_digit-requires c = omega (arith, c.shared_slice_known-1.given c.loop-b.b-index)
-
 pub bounds-out-p : goal.bounds-out-p
 bounds-out-p c =
     let l = c.loop-b in
     let f = hex-fits c.args.bytes.now l.b-index c.loop-b-test.true l.invariant c.requires in
     omega arith
 
-pub hex_digit-requires-in-loop-b : goal.hex_digit-requires-in-loop-b
-hex_digit-requires-in-loop-b c = omega arith
-
-pub overflow_add-out : goal.overflow_add-out
-overflow_add-out c =
-    let l = c.loop-b in
-    let f = hex-fits c.args.bytes.now l.b-index c.loop-b-test.true l.invariant c.requires in
-    omega (arith, l.invariant.same)
-
 pub bounds-out-p-in-loop-b : goal.bounds-out-p-in-loop-b
 bounds-out-p-in-loop-b c =
     let l = c.loop-b in
     let f = hex-fits c.args.bytes.now l.b-index c.loop-b-test.true l.invariant c.requires in
     simp length-set (omega arith)
-
-pub overflow_add-p : goal.overflow_add-p
-overflow_add-p c =
-    let l = c.loop-b in
-    let f = hex-fits c.args.bytes.now l.b-index c.loop-b-test.true l.invariant c.requires in
-    omega (arith, l.invariant.same)
 
 pub loop-b-preserved : goal.loop-b-preserved
 loop-b-preserved c =
@@ -61,6 +43,3 @@ returns c =
 
 pub bounds-out-p-2 : goal.bounds-out-p-2
 bounds-out-p-2 c = end_fits c
-
-pub overflow_add-result : goal.overflow_add-result
-overflow_add-result c = omega (arith, end_fits c, c.loop-b.invariant.same)
