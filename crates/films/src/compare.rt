@@ -67,14 +67,12 @@ pub fn film_agrees(state: &mut State, reference: &Planes, film: &Film) -> bool {
         bits,
         list,
     };
-    let same = forms_agree(
-        Case {
-            given,
-            start: state,
-            end: &end,
-            transcript: &expected,
-        },
-    );
+    let same = forms_agree(Case {
+        given,
+        start: state,
+        end: &end,
+        transcript: &expected,
+    });
     if let Work::Macroblock(_) = film.work {
         *state = end;
     }

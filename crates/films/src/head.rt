@@ -116,7 +116,11 @@ impl Head {
     // A detail is 32 bits, less 2^32 where byte 3 says that it is negative.
     fn refusal(&self) -> Option<Told> {
         let low = i64::from(u32_at(&self.0, 48));
-        let detail = if self.0[3] == 1 { low - 4294967296 } else { low };
+        let detail = if self.0[3] == 1 {
+            low - 4294967296
+        } else {
+            low
+        };
         Told::of(u32::from(self.0[2]), detail)
     }
 

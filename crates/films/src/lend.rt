@@ -71,6 +71,11 @@ impl Case<'_> {
     // A replay is lent what is written of the transcript, and leaves it as it is.
     pub fn is_replayed(&self) -> bool {
         let film = self.given.film;
-        self.agrees(*self.transcript, film.written, replayed::agrees, film.replayed)
+        self.agrees(
+            *self.transcript,
+            film.written,
+            replayed::agrees,
+            film.replayed,
+        )
     }
 }

@@ -1,18 +1,17 @@
 -- The printer's start, as parts of its buffers, and what a run from there leaves.
 -- Assumes nothing.
-use mathlib.Core.Path.{◌≡◌, refl, sym, ap, ◌∙◌}
+use mathlib.Core.Path.{◌≡◌, ap, ◌∙◌}
 use mathlib.Core.List.{List}
 use Prim.Native.Nat.{ℕ, ◌*◌, ◌≤◌}
-use native.Mathlib.Nat.{mul-le-mul}
 use native.Mathlib.Omega.{arith}
 use lib.IntN.{pos}
-use lib.ListN.{length, take, replicate, length-replicate}
+use lib.ListN.{take, replicate}
 use Rattle.levels.proofs.Sets.{part-of-same}
 use Rattle.state.specs.State.{State}
 use Rattle.macroblock.specs.Entry.{state_of}
 use Rattle.state.specs.declared.Frame.{Frame}
 use Rattle.run.specs.Left.{Left, list_left}
-use Rattle.printing.specs.Header.{HeaderRange, frame_of}
+use Rattle.printing.specs.Header.{frame_of}
 use Rattle.printing.specs.Print.{start}
 use Rattle.printing.specs.declared.header.Header.{Header}
 

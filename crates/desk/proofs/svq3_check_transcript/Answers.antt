@@ -3,7 +3,6 @@ use mathlib.Core.Path.{sym, ap, ◌∙◌}
 use mir.Syntax.{w64}
 use mir.Facts.{to_z_pos}
 use native.Mathlib.Omega.{arith}
-use Rattle.ints.proofs.Fits.{back}
 use Rattle.desk.specs.Answer.{check_code}
 use Rattle.desk.proofs.Check.{few-records}
 use Rattle.desk.proofs.svq3_check_transcript.Goals as goal

@@ -1,6 +1,5 @@
 -- `printing::header::read_list`: where the calls that are left end is where all of them do.
-use mathlib.Core.Path.{◌≡◌, sym, ◌∙◌}
-use Prim.Native.Nat.{◌-◌}
+use mathlib.Core.Path.{sym, ◌∙◌}
 use native.Mathlib.Omega.{arith}
 use Rattle.refusal.proofs.Answered.{handed}
 use Rattle.printing.proofs.Headers.{list-none, list-stop, list_on}

@@ -1,5 +1,4 @@
 -- `printing::print::print_list`: the run's report and the part of its transcript that it filled.
-use native.Mathlib.Omega.{arith}
 use Rattle.printing.specs.Print.{room}
 use Rattle.printing.proofs.Texts.{written_as}
 use Rattle.printing.proofs.Runs.{fill-there, part_count, part-most, part-recorded, lines_are}
