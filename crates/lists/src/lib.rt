@@ -1,7 +1,7 @@
 #![tactic(auto)]
 // The lists that the comparison programs read from standard input: their bytes, and the numbers in them, lowest byte first.
 // tools/reference/README.md has their form.
-ghost use Rattle.std.specs.Prelude.{◌≡◌, ◌+◌, ◌≤◌, length, IfSome};
+ghost use Rattle.std.specs.Prelude.{◌≡◌, ◌+◌, ◌<◌, ◌≤◌, length, IfSome, SomeIff};
 
 use refusal::Refusal;
 
@@ -17,7 +17,9 @@ pub struct Told {
 
 impl Told {
     // No refusal has the number 0.
-    pub fn of(number: u32, detail: i64) -> Option<Told> {
+    pub fn of(number: u32, detail: i64) -> Option<Told>
+        ensures { SomeIff result (0 < number) (record { number = number; detail = detail }) }
+    {
         if number == 0 {
             None
         } else {
