@@ -13,8 +13,8 @@ use crate::Coded;
 use crate::svq3_frame::{compensate_chroma, compensate_luma};
 use crate::svq3_picture::store_partitions;
 use crate::svq3_recon::{add_chroma, add_luma};
-use picture::{Grid, Picture, Reference};
 use picture::svq3_picture::copy_macroblock_from;
+use picture::{Grid, Picture, Reference};
 use vectors::svq3_frame::mark_macroblock;
 
 // Compensation, then the residual.

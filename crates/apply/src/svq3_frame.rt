@@ -105,12 +105,7 @@ fn compensate_pair(cb: &mut [u8], cr: &mut [u8], reference: Reference, coded: Co
 }
 
 // All partitions of both chroma planes.
-pub(crate) fn compensate_chroma(
-    cb: &mut [u8],
-    cr: &mut [u8],
-    reference: Reference,
-    coded: Coded,
-)
+pub(crate) fn compensate_chroma(cb: &mut [u8], cr: &mut [u8], reference: Reference, coded: Coded)
     requires { PlanesSized true coded.grid.cols coded.grid.rows cb reference.cb × PlanesSized true coded.grid.cols coded.grid.rows cr reference.cr }
     ensures cb_after { cb.new ≡ moved_up_to (num_motion_vectors coded.entry.head.mode) (unit true) coded.entry.grid.cols coded.entry.grid.rows reference.entry.cb.now (call_given coded.entry) coded.entry.vectors.now cb.old }
     ensures cr_after { cr.new ≡ moved_up_to (num_motion_vectors coded.entry.head.mode) (unit true) coded.entry.grid.cols coded.entry.grid.rows reference.entry.cr.now (call_given coded.entry) coded.entry.vectors.now cr.old }

@@ -7,9 +7,9 @@ ghost use Rattle.apply.specs.InnerSquares.{quadrant_added, square_added};
 
 use crate::Coded;
 use levels::svq3_cbp::{chroma_class, luma_quadrant_coded};
-use transform::{Quantiser, Square};
 use transform::four::{add_chroma_blocks, add_chroma_dc_blocks, add_luma_quadrant};
 use transform::svq3_dequant::dequantize_chroma_dc_levels;
+use transform::{Quantiser, Square};
 
 // Luma quadrant q, where it is coded.
 fn add_quadrant(pic: &mut [u8], coded: Coded, q: usize)
@@ -66,6 +66,13 @@ pub(crate) fn add_chroma(pic: &mut [u8], coded: Coded, plane: usize)
             y: 8 * (head.row as usize),
         };
         let number = head.quantiser;
-        add_square(pic, s, coded.levels, plane, Quantiser { number }, class == 2);
+        add_square(
+            pic,
+            s,
+            coded.levels,
+            plane,
+            Quantiser { number },
+            class == 2,
+        );
     }
 }

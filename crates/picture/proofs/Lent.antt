@@ -1,9 +1,6 @@
 -- The slices of a picture that is lent.
 -- Assumes nothing.
 use mathlib.Core.Path.{◌≡◌, sym, ap, ◌∙◌}
-use mathlib.Core.List.{List}
-use Prim.Native.Nat.{ℕ}
-use lib.IntN.{ℤ}
 use Rattle.picture.specs.InnerLent.{Slices, held, holding}
 use Rattle.picture.specs.declared.Picture.{Picture}
 

@@ -49,7 +49,12 @@ fn move_partition(
 {
     let call = motion.mb.call;
     let part = Partition::of_mode(call.mode, i);
-    let from = near.predict_mv(motion.mb.grid, call.column as usize, call.row as usize, part);
+    let from = near.predict_mv(
+        motion.mb.grid,
+        call.column as usize,
+        call.row as usize,
+        part,
+    );
     let mx = move_component(from.x, motion.precision, dx);
     let my = move_component(from.y, motion.precision, dy);
     let v = Vector {
@@ -174,8 +179,12 @@ pub fn read_coded(
     requires quantiser { cursor.quantiser ≤ 31 }
     ensures { Reading cursor.place (read_coded (lent_context cells.entry.grid.cols cells.entry.grid.rows cells.entry.mv.now cells.entry.marks.now flags cursor.quantiser) mb.call (drop cursor.place (bit_list bits.entry.bytes.now))) result vectors.new levels.new }
 {
-    let (precision, p) =
-        read_inter_mv_precision_p_frame(bits, cursor.place, flags.thirdpel, flags.halfpel)?;
+    let (precision, p) = read_inter_mv_precision_p_frame(
+        bits,
+        cursor.place,
+        flags.thirdpel,
+        flags.halfpel,
+    )?;
     let motion = Motion { mb, precision };
     let (clipped, q) = read_vectors(vectors, cells, bits, p, motion)?;
     read_residual(

@@ -1,5 +1,5 @@
 -- `decode_skip`: what yes to the questions tells is what writing and applying ask.
-use mathlib.Core.Path.{sym, ap, ◌∙◌}
+use mathlib.Core.Path.{ap}
 use native.Mathlib.Omega.{arith}
 use Rattle.picture.specs.InnerPicture.{Within}
 use Rattle.state.specs.State.{State}

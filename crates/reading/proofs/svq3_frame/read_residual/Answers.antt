@@ -1,9 +1,7 @@
 -- `reading::svq3_frame::read_residual`: each part's answer, taken on to the whole.
-use mathlib.Core.Path.{sym, ap, ◌∙◌}
-use lib.ListN.{length}
+use mathlib.Core.Path.{sym, ◌∙◌}
 use Rattle.refusal.proofs.Answered.{handed}
 use Rattle.bits.specs.Bits.{bit_list}
-use Rattle.levels.proofs.Lists.{length-no_levels}
 use Rattle.levels.proofs.Left.{items_left}
 use Rattle.reading.proofs.Readings.{no-pattern, no-quantiser, no-levels, with-levels}
 use Rattle.reading.proofs.svq3_frame.read_residual.Goals as goal

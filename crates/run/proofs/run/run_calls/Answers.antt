@@ -1,6 +1,5 @@
 -- `run::run::run_calls` meets its contract. The loop's invariant: what the calls that are left will leave is what the list leaves.
 use mathlib.Core.Path.{refl, sym, ap, ◌∙◌}
-use Prim.Native.Nat.{◌≤◌}
 use native.Mathlib.Omega.{arith}
 use Rattle.picture.specs.InnerLent.{Slices, held, holding}
 use Rattle.picture.specs.declared.Picture.{Picture}
