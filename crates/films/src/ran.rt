@@ -6,7 +6,7 @@ use refusal::Refusal;
 use run::Report;
 use run::run::run;
 use state::Cursor;
-use thin::{cursor_of, run_at};
+use thin::run_at;
 
 fn stopped(stop: Result<(), Refusal>, film: &Film) -> bool {
     match stop {
@@ -46,7 +46,7 @@ pub fn by_value(picture: &mut Picture, transcript: &mut [u8], given: Given, ran:
         quantiser,
         place,
     );
-    reported(report, cursor_of(report), film, ran)
+    reported(report, report.cursor(), film, ran)
 }
 
 // The same by the thin entry.

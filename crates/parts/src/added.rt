@@ -3,7 +3,7 @@ ghost use Rattle.std.specs.Prelude.{◌≤◌, length};
 
 use lists::{bytes_at, take_numbers};
 use picture::rows::store_row;
-use transform::Square;
+use transform::{Quantiser, Square};
 use transform::four::{add_chroma_blocks, add_chroma_dc_blocks, add_luma_quadrant};
 use transform::svq3_dequant::dequantize_chroma_dc_levels;
 
@@ -24,8 +24,8 @@ fn put_block(quadrant: &mut [u8; 64], at: usize, block: &[u8])
 }
 
 // Whether the block that starts at `at` is the one answered, and the other three, which have no levels, stay as they were.
-fn luma_at(given: &[u8], answered: &[u8], q: u32, at: usize, first: usize) -> bool
-    requires { (80 ≤ length given.now) × (16 ≤ length answered.now) × (q ≤ 31) × (at ≤ 36) × (first ≤ 48) }
+fn luma_at(given: &[u8], answered: &[u8], q: Quantiser, at: usize, first: usize) -> bool
+    requires { (80 ≤ length given.now) × (16 ≤ length answered.now) × (at ≤ 36) × (first ≤ 48) }
 {
     let mut samples = [100u8; 64];
     let mut wanted = [100u8; 64];
@@ -42,10 +42,11 @@ pub fn luma_agrees(quantiser: u32, given: &[u8], answered: &[u8]) -> bool {
     if (given.len() < 80) | (answered.len() != 16) | (quantiser > 31) {
         return false;
     }
-    luma_at(given, answered, quantiser, 0, 0)
-        & luma_at(given, answered, quantiser, 4, 16)
-        & luma_at(given, answered, quantiser, 32, 32)
-        & luma_at(given, answered, quantiser, 36, 48)
+    let q = Quantiser { number: quantiser };
+    luma_at(given, answered, q, 0, 0)
+        & luma_at(given, answered, q, 4, 16)
+        & luma_at(given, answered, q, 32, 32)
+        & luma_at(given, answered, q, 36, 48)
 }
 
 // The samples with the four DC alone, where all other levels are 0.
@@ -70,7 +71,8 @@ pub fn chroma_agrees(quantiser: u32, given: &[u8], answered: &[u8]) -> bool {
     let mut levels = [0i32; 64];
     take_numbers(&mut direct, &given[64..80]);
     take_numbers(&mut levels, &given[80..336]);
-    let dc = dequantize_chroma_dc_levels(&direct, quantiser);
-    add_chroma_blocks(&mut samples, SQUARE, &levels, quantiser, &dc);
+    let q = Quantiser { number: quantiser };
+    let dc = dequantize_chroma_dc_levels(&direct, q);
+    add_chroma_blocks(&mut samples, SQUARE, &levels, q, &dc);
     (samples.as_slice() == answered) & dc_agrees(given, answered, dc)
 }
