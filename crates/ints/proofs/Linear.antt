@@ -15,9 +15,6 @@ use Rattle.std.proofs.lemmas.Int.{ints}
 use Rattle.ints.specs.Z.{min_z, max_z, clamp_z, sat_z, clip1_z, floor_z, mod_z, least_i32, most_i32}
 use Rattle.ints.proofs.Fits.{if-ind, clamp-ind}
 
--- the name that proofs of `vectors` have for it
-pub ruleset z-rules = (ints)
-
 -- ---- sums and multiples
 pub add-z : (x y : ℤ) → up (x +ℤ y) + (down x + down y) ≡ down (x +ℤ y) + (up x + up y)
 add-z x y = omega (arith, ints)

@@ -3,9 +3,9 @@ ghost use Rattle.std.specs.Prelude.{◌≤◌, length};
 
 use lists::{bytes_at, take_numbers};
 use picture::rows::store_row;
-use transform::{Quantiser, Square};
 use transform::four::{add_chroma_blocks, add_chroma_dc_blocks, add_luma_quadrant};
 use transform::svq3_dequant::dequantize_chroma_dc_levels;
+use transform::{Quantiser, Square};
 
 // A plane of 8 × 8 samples, all of it.
 const SQUARE: Square = Square {

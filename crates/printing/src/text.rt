@@ -38,7 +38,7 @@ pub fn put_hex_line(out: &mut [u8], bytes: &[u8], at: usize) -> usize
     p + 1
 }
 
-// A number in decimal. The library prints without a heap to a writer, and says what is written only where that answers Ok, but not that it does.
+// A number in decimal. The library prints without a heap to a writer, and says what is written only where that answers Ok, but not that it does; the kit's crate `itoa` would be one more to trust.
 fn put_decimal(out: &mut [u8], at: usize, n: usize) -> usize
     requires { at + length (decimal n) ≤ length out.old }
     ensures { Written out.old at (decimal n) result out.new }

@@ -12,7 +12,8 @@ use mir.Val.{SFits, to_z}
 use mir.Facts.{to_z-of_z, to_z_pos}
 use Rattle.ints.proofs.Fits.{read, if-ind}
 use Rattle.ints.specs.Z.{sat_z, over_z, toward_zero, floor_z}
-use Rattle.ints.proofs.Linear.{up, down, z-rules, add-z, diff-z, abs-z, mag-z, times-z, scaled-z, floor-z, quot-z}
+use Rattle.std.proofs.lemmas.Int.{ints}
+use Rattle.ints.proofs.Linear.{up, down, add-z, diff-z, abs-z, mag-z, times-z, scaled-z, floor-z, quot-z}
 use Rattle.ints.proofs.Laws.{sat-fits, sat-same, no-over, over-sat, add-diff}
 use Rattle.ints.proofs.Same.{reads}
 use Rattle.vectors.proofs.Tests.{neither}
@@ -35,7 +36,7 @@ module _ (k : ℕ) (low : 1179648 ≤ k) (high : k < 2 ^ 21) (v : ℤ) (h : nat_
   raised-fits = record { sfits = omega (arith, abs-z v, add-z v (pos k), mag-z v, mag-z raised) }
 
   raised-read : read w32 raised ≡ pos (up raised)
-  raised-read = to_z-of_z raised-fits ∙ omega (arith, z-rules, abs-z v, add-z v (pos k), mag-z v, mag-z raised)
+  raised-read = to_z-of_z raised-fits ∙ omega (arith, ints, abs-z v, add-z v (pos k), mag-z v, mag-z raised)
 
   raised-number : nat_abs (read w32 raised) ≡ up raised
   raised-number = ap nat_abs raised-read
@@ -47,7 +48,7 @@ module _ (k : ℕ) (low : 1179648 ≤ k) (high : k < 2 ^ 21) (v : ℤ) (h : nat_
   number_small = rw raised-number raised-small
 
   less-fits : SFits w32 (to_z w32 (nat_abs (read w32 raised) / 6) -ℤ pos 262144)
-  less-fits = rw (to_z_pos w32 {n = nat_abs (read w32 raised) / 6} (omega (arith, number_small))) (record { sfits = omega (arith, z-rules, number_small, diff-z (pos (nat_abs (read w32 raised) / 6)) (pos 262144), mag-z (pos (nat_abs (read w32 raised) / 6) -ℤ pos 262144)) })
+  less-fits = rw (to_z_pos w32 {n = nat_abs (read w32 raised) / 6} (omega (arith, number_small))) (record { sfits = omega (arith, ints, number_small, diff-z (pos (nat_abs (read w32 raised) / 6)) (pos 262144), mag-z (pos (nat_abs (read w32 raised) / 6) -ℤ pos 262144)) })
 
   -- a sixth of k is 262144, and 3 remain
   pub sixth-read : k ≡ 6 * 262144 + 3 → read w32 (to_z w32 (nat_abs (read w32 raised) / 6) -ℤ pos 262144) ≡ floor_z (v +ℤ pos 3) 6
@@ -55,21 +56,21 @@ module _ (k : ℕ) (low : 1179648 ≤ k) (high : k < 2 ^ 21) (v : ℤ) (h : nat_
       to_z-of_z less-fits
       ∙ rw raised-number
       (ap (λ z. z -ℤ pos 262144) (to_z_pos w32 {n = up raised / 6} (omega (arith, raised-small)))
-      ∙ omega (arith, z-rules, abs-z v, add-z v (pos k), mag-z raised, diff-z (pos (up raised / 6)) (pos 262144), floor-z 6 (v +ℤ pos 3) (omega arith), add-z v (pos 3)))
+      ∙ omega (arith, ints, abs-z v, add-z v (pos k), mag-z raised, diff-z (pos (up raised / 6)) (pos 262144), floor-z 6 (v +ℤ pos 3) (omega arith), add-z v (pos 3)))
 
 -- ---- a predictor in units, at each precision: units of a sample times it, a sixth of that rounded
 rounded : (v : ℤ) → floor_z (v +ℤ pos 3) 6 ≡ round_to_sixths v
 unfolding round_to_sixths
 rounded v =
     if-ind (λ z. floor_z (v +ℤ pos 3) 6 ≡ z) (lt_z v (pos 0)) (toward_zero (v -ℤ pos 2) 6) (toward_zero (v +ℤ pos 3) 6)
-    (λ e. omega (arith, z-rules, mag-z v, floor-z 6 (v +ℤ pos 3) (omega arith), add-z v (pos 3), diff-z v (pos 2), mag-z (v -ℤ pos 2), quot-z 6 (v -ℤ pos 2)))
-    (λ e. omega (arith, z-rules, mag-z v, floor-z 6 (v +ℤ pos 3) (omega arith), add-z v (pos 3), mag-z (v +ℤ pos 3), quot-z 6 (v +ℤ pos 3)))
+    (λ e. omega (arith, ints, mag-z v, floor-z 6 (v +ℤ pos 3) (omega arith), add-z v (pos 3), diff-z v (pos 2), mag-z (v -ℤ pos 2), quot-z 6 (v -ℤ pos 2)))
+    (λ e. omega (arith, ints, mag-z v, floor-z 6 (v +ℤ pos 3) (omega arith), add-z v (pos 3), mag-z (v +ℤ pos 3), quot-z 6 (v +ℤ pos 3)))
 
 pub converted : (precision : Svq3MvPrecision) (p : ℤ) → floor_z (pos (units_in_sample precision) *ℤ p +ℤ pos 3) 6 ≡ convert_predictor precision p
 unfolding convert_predictor
-converted Fullpel p = rounded (pos 1 *ℤ p) ∙ ap round_to_sixths (omega (arith, z-rules, times-z 1 p))
+converted Fullpel p = rounded (pos 1 *ℤ p) ∙ ap round_to_sixths (omega (arith, ints, times-z 1 p))
 converted Halfpel p = rounded (pos 2 *ℤ p)
-converted Thirdpel p = omega (arith, z-rules, floor-z 6 (pos 3 *ℤ p +ℤ pos 3) (omega arith), add-z (pos 3 *ℤ p) (pos 3), times-z 3 p, floor-z 2 (p +ℤ pos 1) (omega arith), add-z p (pos 1))
+converted Thirdpel p = omega (arith, ints, floor-z 6 (pos 3 *ℤ p +ℤ pos 3) (omega arith), add-z (pos 3 *ℤ p) (pos 3), times-z 3 p, floor-z 2 (p +ℤ pos 1) (omega arith), add-z p (pos 1))
 
 -- what is divided is small
 pub units-size : (precision : Svq3MvPrecision) (p : ℤ) → nat_abs p ≤ 393216 → nat_abs (pos (units_in_sample precision) *ℤ p) ≤ 1179648
@@ -83,12 +84,12 @@ sum-wide a b f g = search reads depth 20
 
 module _ (z : ℤ) (lo : lt_z z (negsuc 268435455) ≡ false) (hi : lt_z (pos 268435455) z ≡ false) where
   pub small-sum : SFits w32 z
-  small-sum = record { sfits = omega (arith, z-rules, mag-z z) }
+  small-sum = record { sfits = omega (arith, ints, mag-z z) }
 
   pub small_product : (precision : Svq3MvPrecision) → SFits w32 (z *ℤ pos (stored_scale precision))
-  small_product Fullpel = record { sfits = omega (arith, z-rules, mag-z z, scaled-z 6 z, mag-z (z *ℤ pos 6)) }
-  small_product Halfpel = record { sfits = omega (arith, z-rules, mag-z z, scaled-z 3 z, mag-z (z *ℤ pos 3)) }
-  small_product Thirdpel = record { sfits = omega (arith, z-rules, mag-z z, scaled-z 2 z, mag-z (z *ℤ pos 2)) }
+  small_product Fullpel = record { sfits = omega (arith, ints, mag-z z, scaled-z 6 z, mag-z (z *ℤ pos 6)) }
+  small_product Halfpel = record { sfits = omega (arith, ints, mag-z z, scaled-z 3 z, mag-z (z *ℤ pos 3)) }
+  small_product Thirdpel = record { sfits = omega (arith, ints, mag-z z, scaled-z 2 z, mag-z (z *ℤ pos 2)) }
 
   -- the component is the exact product, and it is not clipped
   pub small-stored : (precision : Svq3MvPrecision) (p d : ℤ) → z ≡ convert_predictor precision p +ℤ d → (z *ℤ pos (stored_scale precision) ≡ stored_part precision p d) × (false ≡ clipped_part precision p d)
@@ -116,7 +117,7 @@ multiple-back : (k : ℕ) (z : ℤ) → 0 < k → toward_zero (z *ℤ pos k) k �
 multiple-back k z h =
     let u : up (toward_zero (z *ℤ pos k) k) ≡ up z = (quot-z k (z *ℤ pos k)).0 ∙ ap (λ n. n / k) (scaled-z k z).0 ∙ mul-div_right (up z) h in
     let v : down (toward_zero (z *ℤ pos k) k) ≡ down z = (quot-z k (z *ℤ pos k)).1 ∙ ap (λ n. n / k) (scaled-z k z).1 ∙ mul-div_right (down z) h in
-    omega (arith, z-rules)
+    omega (arith, ints)
 
 -- ---- where nothing was clipped
 module _ (precision : Svq3MvPrecision) (p d : ℤ) (e : clipped_part precision p d ≡ false) where

@@ -11,7 +11,8 @@ use lib.IntN.{ℤ, pos, nat_abs, ◌+ℤ◌, ◌-ℤ◌}
 use mir.Val.{bool_byte}
 use Rattle.ints.specs.Z.{when◌then◌else◌, clamp_z}
 use Rattle.ints.proofs.Fits.{if_yes, if_no}
-use Rattle.ints.proofs.Linear.{z-rules, diff-z, abs-z, mag-z}
+use Rattle.std.proofs.lemmas.Int.{ints}
+use Rattle.ints.proofs.Linear.{diff-z, abs-z, mag-z}
 use Rattle.ints.proofs.Laws.{clamp-low, clamp-high}
 use Rattle.vectors.specs.InnerWindow.{shown_at}
 use Rattle.vectors.specs.declared.window.Neighbours.{Neighbours}
@@ -75,4 +76,4 @@ module _ (side place span : ℕ) (p : ℤ) (h : place + span ≤ side) where
       let z = pos (6 * place) +ℤ p in
       let low = clamp-low (pos 0) hi z (le-ltb (6 * (side - span)) 0 zero-le) in
       let high = clamp-high (pos 0) hi z (le-ltb (6 * (side - span)) 0 zero-le) in
-      omega (arith, z-rules, diff-z (clamp_z (pos 0) hi z) (pos (6 * place)), abs-z (clamp_z (pos 0) hi z -ℤ pos (6 * place)), mag-z (clamp_z (pos 0) hi z -ℤ pos (6 * place)))
+      omega (arith, ints, diff-z (clamp_z (pos 0) hi z) (pos (6 * place)), abs-z (clamp_z (pos 0) hi z -ℤ pos (6 * place)), mag-z (clamp_z (pos 0) hi z -ℤ pos (6 * place)))
