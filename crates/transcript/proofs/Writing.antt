@@ -5,7 +5,9 @@ use mathlib.Core.List.{List, [], ◌∷◌, ◌++◌, append_assoc, append-nil}
 use Prim.Native.Nat.{ℕ, suc, ◌+◌, ◌-◌, ◌*◌, ◌≤◌, ◌<◌}
 use native.Mathlib.Numerals.{add-one}
 use native.Mathlib.Omega.{arith}
-use Rattle.std.proofs.lemmas.List.{drop_all}
+use Rattle.std.proofs.lemmas.List.{drop_all, take-append-le, take-append-drop}
+use Rattle.std.proofs.Math.Seq.{take-append_seam, drop-append_seam}
+use Rattle.levels.proofs.Sets.{drop_of_take}
 use borrow.Author.Tests.{ne_eqb}
 use lib.Dec.{eqb}
 use lib.IntN.{ℤ, pos}
@@ -117,14 +119,24 @@ pub no-numbers : (xs : List ℤ) (i : ℕ) → length xs ≤ i → signed_number
 unfolding signed_numbers
 no-numbers xs i h = rw (drop_all i xs h)
 
--- a part of them, by where it ends
-pub part-numbers : (xs : List ℤ) (a b k : ℕ) → b ≡ a + k → signed_numbers (take (b - a) (drop a xs)) ≡ signed_numbers (take k (drop a xs))
-part-numbers xs a b k e =
-    let z : b - a ≡ k = omega arith in
-    ap (λ (n : ℕ). signed_numbers (take n (drop a xs))) z
-
+-- a part of them is no longer than asked
 pub part-most : (xs : List ℤ) (a b k : ℕ) → b ≡ a + k → length (take (b - a) (drop a xs)) ≤ k
 part-most xs a b k e = omega (arith, length-take (b - a) (drop a xs))
+
+-- a turn over lists of sixteen: the list, and what is left
+pub next-sixteen : (xs : List ℤ) (a n i : ℕ) (x r : List ℤ) → take (n - 16 * i) (drop (a + 16 * i) xs) ≡ x ++ r → length x ≡ 16
+    → (x ≡ take 16 (drop (a + 16 * i) xs)) × (r ≡ take (n - 16 * (i + 1)) (drop (a + 16 * (i + 1)) xs)) × (16 * i + 16 ≤ n)
+next-sixteen xs a n i x r e l =
+    let y = drop (a + 16 * i) xs in
+    let m = n - 16 * i in
+    let some : 16 ≤ n - 16 * i = omega (arith, ap length e, length-take (n - 16 * i) (drop (a + 16 * i) xs), length-append x r, l) in
+    let long : 16 ≤ length (take m y) = omega (arith, ap length e, length-append x r, l) in
+    let less : n - 16 * i - 16 ≡ n - 16 * (i + 1) = omega arith in
+    let on : a + 16 * i + 16 ≡ a + 16 * (i + 1) = omega arith in (
+      sym (rw l at (take-append_seam x r)) ∙ ap (take 16) (sym e) ∙ sym (take-append-le 16 (take m y) (drop m y) long) ∙ ap (take 16) (take-append-drop m y),
+      sym (rw l at (drop-append_seam x r)) ∙ ap (drop 16) (sym e) ∙ drop_of_take 16 m y ∙ rw (drop-drop 16 (a + 16 * i) xs, less, on),
+      omega arith,
+    )
 
 in_parts : (ys zs : List ℤ) → signed_numbers (ys ++ zs) ≡ signed_numbers ys ++ signed_numbers zs
 unfolding signed_numbers

@@ -88,15 +88,14 @@ fn put_list(out: &mut [u8], numbers: &[i32], at: usize) -> usize
     put_signed_numbers(out, numbers, at)
 }
 
-// The four lists of a luma quadrant, which stand side by side from `place` on. By the number of a list, here and in put_ac: side_bytes has
-// list i at place + 16 · i, and over chunks the invariant would have to tie what is left of the iterator to that number.
+// The four lists of a luma quadrant, which stand side by side from `place` on.
 fn put_blocks(out: &mut [u8], levels: &[i32], at: usize, place: usize) -> usize
     requires { (place + 64 ≤ length levels.now) × (at + length (side_bytes ResidualBook.NormalScan 0 4 place levels.now) ≤ length out.old) }
     ensures { Written out.old at (side_bytes ResidualBook.NormalScan 0 4 place levels.now) result out.new }
 {
     let mut p = at;
-    for i in 0..4 {
-        p = put_list(out, &levels[place + 16 * i..place + 16 * i + 16], p);
+    for list in levels[place..place + 64].chunks_exact(16) {
+        p = put_list(out, list, p);
     }
     p
 }
@@ -107,8 +106,8 @@ fn put_ac(out: &mut [u8], levels: &[i32; 392], at: usize) -> usize
     ensures { Written out.old at (side_bytes ResidualBook.NormalScan 1 8 264 levels.now) result out.new }
 {
     let mut p = at;
-    for i in 0..8 {
-        p = put_list(out, &levels[265 + 16 * i..280 + 16 * i], p);
+    for list in levels[264..392].chunks_exact(16) {
+        p = put_list(out, &list[1..], p);
     }
     p
 }

@@ -1,14 +1,16 @@
 -- `transcript::write::put_blocks`: the lists that are left, written at their place, give the whole.
-use mathlib.Core.Path.{◌≡◌, refl}
-use mathlib.Core.List.{List, ◌++◌}
-use Prim.Native.Nat.{ℕ, ◌+◌, ◌-◌, ◌*◌, ◌<◌}
+use mathlib.Core.Path.{◌≡◌, refl, sym, ap, ◌∙◌}
+use mathlib.Core.List.{List, [], ◌∷◌, ◌++◌}
+use Prim.Native.Nat.{ℕ, ◌+◌, ◌-◌, ◌*◌, ◌<◌, ◌≤◌}
 use native.Mathlib.Omega.{arith}
 use lib.IntN.{ℤ}
-use lib.ListN.{take, drop}
+use lib.ListN.{length, take, drop, length-append, length-take, length-drop}
+use Rattle.std.specs.Slice.Iter.{chunks_exact_rest}
 use Rattle.levels.specs.declared.svq3_coeff.ResidualBook.TheVariants.{NormalScan}
 use Rattle.record.specs.Write.{signed_numbers}
 use Rattle.record.specs.InnerSides.{side_bytes}
-use Rattle.transcript.proofs.Writing.{still-all, still-fits, still-more, still-none, part-numbers, part-most, first-list, no-list}
+use Rattle.transcript.proofs.Writing.{still-fits, still-more, still-none, first-list, no-list, next-sixteen}
+use Rattle.transcript.proofs.write.put_blocks.Goals.{In-Some}
 use Rattle.transcript.proofs.write.put_blocks.Goals as goal
 
 abbrev one : List ℤ → ℕ → ℕ → List ℕ
@@ -22,27 +24,35 @@ next-list ls place i h =
     let z : place + 16 * i + 0 ≡ place + 16 * i = omega arith in
     rw z at (first-list NormalScan 0 ls place 4 i 16 refl h)
 
-pub loop-i-init : goal.loop-i-init
-loop-i-init c =
-    let a = c.args in
-    let f : a.place + 16 * 0 ≡ a.place = omega arith in
-    still-all a.out.now a.at _ _ (rw f)
+abbrev count : In-Some → ℕ
+count c = length c.loop-list.yielded
+
+size : (c : In-Some) → length c.in-Some.list.now ≡ 16
+size c = c.in-Some.ensures.steps.1.1 ∙ c.loop-list.invariant.0
+
+turn : (c : In-Some) → (c.in-Some.list.now ≡ take 16 (drop (c.args.place + 16 * count c) c.args.levels.now))
+    × (chunks_exact_rest c.next.new.self ≡ take (64 - 16 * (count c + 1)) (drop (c.args.place + 16 * (count c + 1)) c.args.levels.now)) × (16 * count c + 16 ≤ 64)
+turn c = next-sixteen c.args.levels.now c.args.place 64 (count c) c.in-Some.list.now (chunks_exact_rest c.next.new.self) (sym c.loop-list.invariant.1 ∙ c.in-Some.ensures.steps.1.0) (size c)
 
 pub put_list-p-requires : goal.put_list-p-requires
 put_list-p-requires c =
-    let l = c.loop-i in
-    let h = c.loop-i-test.true in
+    let d = (goal.at.put_list-p-requires c).In-Some in
     let ls = c.args.levels.now in
-    let from = c.args.place + 16 * l.i in
-    (part-most ls from (from + 16) 16 refl, rw (part-numbers ls from (from + 16) 16 refl) (still-fits l.invariant (one ls c.args.place l.i) (behind ls c.args.place l.i) (next-list ls c.args.place l.i h) c.requires.1))
+    let t = turn d in
+    let fits = still-fits c.loop-list.invariant.2 (one ls c.args.place (count d)) (behind ls c.args.place (count d)) (next-list ls c.args.place (count d) (omega (arith, t.2))) c.requires.1 in
+    (omega (arith, size d), rw t.0 fits)
 
-pub loop-i-preserved : goal.loop-i-preserved
-loop-i-preserved c =
-    let a = c.args in
-    let l = c.loop-i in
-    let h = c.loop-i-test.true in
-    let from = a.place + 16 * l.i in
-    still-more l.invariant (next-list a.levels.now a.place l.i h) (rw (part-numbers a.levels.now from (from + 16) 16 refl) at c.put_list-p.ensures)
+pub loop-list-preserved : goal.loop-list-preserved
+loop-list-preserved c =
+    let d = (goal.at.loop-list-preserved c).In-Some in
+    let t = turn d in
+    let more : length (c.loop-list.yielded ++ c.in-Some.list ∷ []) ≡ count d + 1 = length-append c.loop-list.yielded (c.in-Some.list ∷ []) in
+    rw more (c.in-Some.ensures.steps.0 ∙ c.loop-list.invariant.0, t.1, still-more c.loop-list.invariant.2 (next-list c.args.levels.now c.args.place (count d) (omega (arith, t.2))) (rw t.0 at c.put_list-p.ensures))
 
 pub returns : goal.returns
-returns c = still-none c.loop-i.invariant (no-list NormalScan 0 c.args.levels.now _ 4 c.loop-i.i c.loop-i-test.false)
+returns c =
+    let a = c.args in
+    let i = length c.loop-list.yielded in
+    let v = c.loop-list.invariant in
+    let all : 4 ≤ i = omega (arith, c.in-None.ensures.steps.1.0, v.0, ap length v.1, length-take (64 - 16 * i) (drop (a.place + 16 * i) a.levels.now), length-drop (a.place + 16 * i) a.levels.now, c.requires.0) in
+    still-none v.2 (no-list NormalScan 0 a.levels.now _ 4 i all)
