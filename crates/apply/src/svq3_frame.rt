@@ -59,6 +59,7 @@ fn taps_in(vectors: &[i32; 32], b: Block, size: Size, chroma: bool, i: usize) ->
 }
 
 // Partition i of a macroblock's luma.
+// `PlanesSized` ties the planes to the grid, here and below: a struct of a plane and its reference would be one more for each of the three. That i is the number of a partition is no fact of a `Coded`.
 fn compensate_partition(pic: &mut [u8], reference: &[u8], coded: Coded, i: usize)
     requires index { i < num_motion_vectors coded.head.mode }
     requires planes_sized { PlanesSized false coded.grid.cols coded.grid.rows pic reference }

@@ -27,7 +27,7 @@ fn owners(mode: u32) -> u64
     }
 }
 
-// The vectors of four cells, from number `at` on: the digits of `four` say whose.
+// The vectors of four cells, from number `at` on: the digits of `four` say whose. By the number, since it picks the digit, and each turn writes two numbers.
 fn store_row(mv: &mut [i32], vectors: &[i32; 32], at: usize, four: u64)
     requires { (at + 8 ≤ length mv.old) }
     ensures { mv.new ≡ row mv.old at (own_number vectors.now four) 8 }

@@ -160,8 +160,3 @@ module _ (s : State) (call : Call) (bits : List ℕ) (place : ℕ) (transcript :
             let q = sym (coded-quantiser s (record_of h vs ls) no-skip) in
             (λ i. mb_left (Ok (record { place = by.moved i; quantiser = q i; fill = w.moved i; clipped = h.clipped })) (changed s (q i) (e i)) (w.leaves i))
             ∙ on-coded (got (record_of h vs ls) by.taken) by.is
-
--- ---- the caller's record moved on by an answer has the answer's quantiser
-pub moved-quantiser : (place q : ℕ) (m : MbAnswer) (c : Cursor) → c ≡ cursor_by place q m → c.quantiser ≡ quantiser_by q m
-moved-quantiser place q (Ok report) c e = ap (λ (x : Cursor). x.quantiser) e
-moved-quantiser place q (Err why) c e = ap (λ (x : Cursor). x.quantiser) e

@@ -26,7 +26,7 @@ pub struct MbReport {
     pub clipped: u32,
 }
 
-// Where a call leaves the caller: past an accepted macroblock, where it was at a refusal.
+// Where a call leaves the caller: past an accepted macroblock, where it was at a refusal. No `From`: the place before the call is needed too.
 pub fn cursor_by(place: usize, quantiser: u32, answer: Result<MbReport, Refusal>) -> Cursor
     ensures { result ≡ cursor_by place quantiser answer }
 {

@@ -17,6 +17,7 @@ use state::{Call, Cursor, Frame, Lengths, Macroblock, ask_call};
 use transcript::write::{put_coded, put_skip};
 
 // A macroblock that is no skip: read, then written and applied.
+// That all questions were answered with yes is a clause of three functions: it is about all that they are given, the lengths of the slices too.
 fn decode_coded(
     pic: &mut Picture,
     transcript: &mut [u8],
@@ -104,7 +105,7 @@ fn decode_asked(
     }
 }
 
-// One macroblock at a bit place: refused, it leaves everything as it was.
+// One macroblock at a bit place: refused, it leaves everything as it was. Slices and numbers come one by one, as a C host has them.
 pub fn decode_inter_mb(
     y: &mut [u8],
     cb: &mut [u8],

@@ -6,6 +6,7 @@ ghost use Rattle.picture.specs.InnerPicture.{Within, Sized};
 use crate::rows::copy_block;
 use crate::{Block, Grid, Reference};
 
+// Grid, column and row are no struct: `vectors` asks less of the same three where it loads and marks cells, and a fact in the struct would ask it there.
 pub fn copy_macroblock_from(
     y: &mut [u8],
     cb: &mut [u8],

@@ -72,7 +72,7 @@ fn put_run(
     put_stop(out, p, stop)
 }
 
-// Macroblocks of the header's grid.
+// Macroblocks of the header's grid. `HeaderRange` is a clause, here and below: `From` takes any header.
 fn macroblocks(h: Header) -> usize
     requires { HeaderRange h }
     ensures { (result ≡ h.grid.cols * h.grid.rows) × (result ≤ 16) }

@@ -21,6 +21,8 @@ pub struct Step {
     pub next: usize,
 }
 
+// `AllSized` ties the picture and the reference to the grid, and each record writes the picture: in a struct it would be shown anew at every write.
+// A grid of at most 4,096 a side is a clause, since `Frame` holds whatever grid an entry is given.
 // The work of the record at `at`, which is no skip: its place and mode end at `before.next`, and `before.quantiser` is the one before it.
 fn replay_coded(
     pic: &mut Picture,

@@ -39,7 +39,7 @@ fn replay_records(
     q
 }
 
-// Reads a transcript from a start and does each record's work: all records are checked before anything changes.
+// Reads a transcript from a start and does each record's work: all records are checked before anything changes. Slices and numbers come one by one, as a C host has them.
 pub fn replay(
     y: &mut [u8],
     cb: &mut [u8],

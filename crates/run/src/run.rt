@@ -70,6 +70,7 @@ fn run_calls(
 }
 
 // Makes the calls of a list in order, the first at the given bit place, and stops at the first refusal, keeping what earlier calls did.
+// Slices and numbers come one by one, as a C host has them.
 pub fn run(
     y: &mut [u8],
     cb: &mut [u8],

@@ -66,6 +66,7 @@ pub fn grid_right(grid: Grid) -> bool
     (1 <= grid.cols) & (grid.cols <= 4096) & (1 <= grid.rows) & (grid.rows <= 4096)
 }
 
+// That a grid passed question 1 is a clause where it is counted with: `Grid` and `Frame` hold whatever an entry is given, and a second pair of types would say no more.
 fn planes_right(grid: Grid, y: usize, cb: usize, cr: usize) -> bool
     requires { grid_right grid.cols grid.rows ≡ true }
     ensures { result ≡ planes_right grid.cols grid.rows y cb cr }

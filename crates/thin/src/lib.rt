@@ -1,5 +1,5 @@
 #![tactic(auto)]
-// One macroblock, and a run, from the caller's own record of place and quantiser, which moves on.
+// One macroblock, and a run, from the caller's own record of place and quantiser, which moves on. Slices come one by one, as in the entries that these call.
 pub mod svq3_frame;
 
 ghost use Rattle.std.specs.Prelude.{◌≡◌};
