@@ -6,8 +6,8 @@ use Rattle.record.specs.InnerRecord.{record_of}
 use Rattle.reading.specs.Bits.{call_of}
 use Rattle.apply.specs.declared.Coded.{Coded}
 
-abbrev pub given : Coded → Record
-given coded = record_of coded.head coded.vectors.now coded.levels.now
+abbrev pub record_given : Coded → Record
+record_given coded = record_of coded.head coded.vectors.now coded.levels.now
 
 abbrev pub call_given : Coded → Call
-call_given coded = call_of (given coded)
+call_given coded = call_of (record_given coded)

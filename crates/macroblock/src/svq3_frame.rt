@@ -2,7 +2,7 @@
 ghost use Rattle.std.specs.Prelude.{◌≡◌, ◌<◌};
 ghost use Rattle.state.specs.Questions.{yes};
 ghost use Rattle.macroblock.specs.Decode.{asked, decoded};
-ghost use Rattle.picture.specs.InnerLent.{held, holding};
+ghost use Rattle.picture.specs.InnerLent.{contents, with_contents};
 ghost use Rattle.macroblock.specs.Entry.{state_before, state_after, quantiser_by, mb_left};
 ghost use Rattle.macroblock.specs.InnerSource.{state_of_source};
 
@@ -26,11 +26,11 @@ fn decode_coded(
     cursor: Cursor,
     fill: usize,
 ) -> Result<MbReport, Refusal>
-    requires fill_value { asked (state_of_source source cursor.quantiser (held pic.old)) call source.bits.now cursor.place transcript.old fill ≡ yes }
+    requires fill_value { asked (state_of_source source cursor.quantiser (contents pic.old)) call source.bits.now cursor.place transcript.old fill ≡ yes }
     requires mode_nonzero { 0 < call.mode }
-    ensures left { mb_left result (state_of_source source.entry (quantiser_by cursor.quantiser result) (held pic.new)) transcript.new
-        ≡ decoded (state_of_source source.entry cursor.quantiser (held pic.old)) call source.entry.bits.now cursor.place transcript.old fill }
-    ensures same_slices { pic.new ≡ holding pic.old (held pic.new) }
+    ensures left { mb_left result (state_of_source source.entry (quantiser_by cursor.quantiser result) (contents pic.new)) transcript.new
+        ≡ decoded (state_of_source source.entry cursor.quantiser (contents pic.old)) call source.entry.bits.now cursor.place transcript.old fill }
+    ensures same_slices { pic.new ≡ with_contents pic.old (contents pic.new) }
 {
     let mut vectors = [0i32; 32];
     let mut levels = [0i32; 392];
@@ -66,11 +66,11 @@ fn decode_skip(
     cursor: Cursor,
     fill: usize,
 ) -> Result<MbReport, Refusal>
-    requires fill_value { asked (state_of_source source cursor.quantiser (held pic.old)) call source.bits.now cursor.place transcript.old fill ≡ yes }
+    requires fill_value { asked (state_of_source source cursor.quantiser (contents pic.old)) call source.bits.now cursor.place transcript.old fill ≡ yes }
     requires mode_value { call.mode ≡ 0 }
-    ensures left { mb_left result (state_of_source source.entry (quantiser_by cursor.quantiser result) (held pic.new)) transcript.new
-        ≡ decoded (state_of_source source.entry cursor.quantiser (held pic.old)) call source.entry.bits.now cursor.place transcript.old fill }
-    ensures same_slices { pic.new ≡ holding pic.old (held pic.new) }
+    ensures left { mb_left result (state_of_source source.entry (quantiser_by cursor.quantiser result) (contents pic.new)) transcript.new
+        ≡ decoded (state_of_source source.entry cursor.quantiser (contents pic.old)) call source.entry.bits.now cursor.place transcript.old fill }
+    ensures same_slices { pic.new ≡ with_contents pic.old (contents pic.new) }
 {
     let fill = put_skip(transcript, fill, call.column, call.row);
     let column = call.column as usize;
@@ -93,10 +93,10 @@ fn decode_asked(
     cursor: Cursor,
     fill: usize,
 ) -> Result<MbReport, Refusal>
-    requires { asked (state_of_source source cursor.quantiser (held pic.old)) call source.bits.now cursor.place transcript.old fill ≡ yes }
-    ensures left { mb_left result (state_of_source source.entry (quantiser_by cursor.quantiser result) (held pic.new)) transcript.new
-        ≡ decoded (state_of_source source.entry cursor.quantiser (held pic.old)) call source.entry.bits.now cursor.place transcript.old fill }
-    ensures same_slices { pic.new ≡ holding pic.old (held pic.new) }
+    requires { asked (state_of_source source cursor.quantiser (contents pic.old)) call source.bits.now cursor.place transcript.old fill ≡ yes }
+    ensures left { mb_left result (state_of_source source.entry (quantiser_by cursor.quantiser result) (contents pic.new)) transcript.new
+        ≡ decoded (state_of_source source.entry cursor.quantiser (contents pic.old)) call source.entry.bits.now cursor.place transcript.old fill }
+    ensures same_slices { pic.new ≡ with_contents pic.old (contents pic.new) }
 {
     if call.mode == 0 {
         decode_skip(pic, transcript, source, call, cursor, fill)

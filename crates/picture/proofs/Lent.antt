@@ -1,7 +1,7 @@
 -- The slices of a picture that is lent.
 -- Assumes nothing.
 use mathlib.Core.Path.{◌≡◌, sym, ap, ◌∙◌}
-use Rattle.picture.specs.InnerLent.{Slices, held, holding}
+use Rattle.picture.specs.InnerLent.{Slices, contents, with_contents}
 use Rattle.picture.specs.declared.Picture.{Picture}
 
 -- slices that hold the same one by one
@@ -9,8 +9,8 @@ pub slices-are : {p q : Slices} → p.y ≡ q.y → p.cb ≡ q.cb → p.cr ≡ q
 slices-are y cb cr mv marks = λ i. record { y = y i; cb = cb i; cr = cr i; mv = mv i; marks = marks i }
 
 -- what holds other contents holds its own
-pub stays : (p : Picture) {q : Picture} {s : Slices} → q ≡ holding p s → q ≡ holding p (held q)
-stays p e = e ∙ ap (λ (r : Picture). holding p (held r)) (sym e)
+pub stays : (p : Picture) {q : Picture} {s : Slices} → q ≡ with_contents p s → q ≡ with_contents p (contents q)
+stays p e = e ∙ ap (λ (r : Picture). with_contents p (contents r)) (sym e)
 
 -- the slices are the same ones
 pub record Same (p q : Picture) : Type 0 where

@@ -12,12 +12,12 @@ pub record Slices : Type 0 where
   pub mv : List ℤ
   pub marks : List ℕ
 
-abbrev pub held : Picture → Slices
-held pic = record { y = pic.y.now; cb = pic.cb.now; cr = pic.cr.now; mv = pic.mv.now; marks = pic.marks.now }
+abbrev pub contents : Picture → Slices
+contents pic = record { y = pic.y.now; cb = pic.cb.now; cr = pic.cr.now; mv = pic.mv.now; marks = pic.marks.now }
 
 -- the same slices, with other contents
-abbrev pub holding : Picture → Slices → Picture
-holding pic s =
+abbrev pub with_contents : Picture → Slices → Picture
+with_contents pic s =
     record {
       y = at_last pic.y s.y;
       cb = at_last pic.cb s.cb;

@@ -3,7 +3,7 @@ ghost use Rattle.std.specs.Prelude.{◌≡◌, ◌≤◌, drop, Ok};
 ghost use Rattle.state.specs.InnerSizes.{AllSized, lent_lengths};
 ghost use Rattle.transcript.specs.InnerParsing.{place_answer};
 ghost use Rattle.transcript.specs.InnerPlace.{parse_place};
-ghost use Rattle.picture.specs.InnerLent.{held, holding};
+ghost use Rattle.picture.specs.InnerLent.{contents, with_contents};
 ghost use Rattle.macroblock.specs.InnerSource.{state_by};
 ghost use Rattle.replay.specs.InnerStepped.{Stepped};
 
@@ -34,11 +34,11 @@ fn replay_coded(
     before: Step,
 ) -> Step
     requires cols_bound { (frame.grid.cols ≤ 4096) × (frame.grid.rows ≤ 4096) × (Ok (RecordStart.Coded head, before.next) ≡ place_answer at (parse_place frame.grid.cols frame.grid.rows (drop at bytes.now))) }
-    requires all_sized { AllSized frame.grid.cols frame.grid.rows (lent_lengths (held pic.old) reference) }
-    ensures stepped { Stepped bytes.now at result.next (state_by frame before.quantiser reference.entry (held pic.old))
-        (state_by frame result.quantiser reference.entry (held pic.new)) }
-    ensures same_slices { pic.new ≡ holding pic.old (held pic.new) }
-    ensures sized { AllSized frame.grid.cols frame.grid.rows (lent_lengths (held pic.new) reference.entry) }
+    requires all_sized { AllSized frame.grid.cols frame.grid.rows (lent_lengths (contents pic.old) reference) }
+    ensures stepped { Stepped bytes.now at result.next (state_by frame before.quantiser reference.entry (contents pic.old))
+        (state_by frame result.quantiser reference.entry (contents pic.new)) }
+    ensures same_slices { pic.new ≡ with_contents pic.old (contents pic.new) }
+    ensures sized { AllSized frame.grid.cols frame.grid.rows (lent_lengths (contents pic.new) reference.entry) }
 {
     let mut vectors = [0i32; 32];
     let mut levels = [0i32; 392];
@@ -66,11 +66,11 @@ pub fn replay_record(
     at: usize,
 ) -> Step
     requires cols_bound { (frame.grid.cols ≤ 4096) × (frame.grid.rows ≤ 4096) }
-    requires all_sized { AllSized frame.grid.cols frame.grid.rows (lent_lengths (held pic.old) reference) }
-    ensures stepped { Stepped bytes.now at result.next (state_by frame quantiser reference.entry (held pic.old))
-        (state_by frame result.quantiser reference.entry (held pic.new)) }
-    ensures same_slices { pic.new ≡ holding pic.old (held pic.new) }
-    ensures sized { AllSized frame.grid.cols frame.grid.rows (lent_lengths (held pic.new) reference.entry) }
+    requires all_sized { AllSized frame.grid.cols frame.grid.rows (lent_lengths (contents pic.old) reference) }
+    ensures stepped { Stepped bytes.now at result.next (state_by frame quantiser reference.entry (contents pic.old))
+        (state_by frame result.quantiser reference.entry (contents pic.new)) }
+    ensures same_slices { pic.new ≡ with_contents pic.old (contents pic.new) }
+    ensures sized { AllSized frame.grid.cols frame.grid.rows (lent_lengths (contents pic.new) reference.entry) }
 {
     match parse_place(bytes, at, frame.grid) {
         Ok((RecordStart::Skip(column, row), next)) => {

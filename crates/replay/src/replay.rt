@@ -1,7 +1,7 @@
 // The replay of a transcript.
 ghost use Rattle.std.specs.Prelude.{◌≡◌, ◌≤◌};
 ghost use Rattle.state.specs.InnerSizes.{AllSized, lent_lengths};
-ghost use Rattle.picture.specs.InnerLent.{held, holding};
+ghost use Rattle.picture.specs.InnerLent.{contents, with_contents};
 ghost use Rattle.macroblock.specs.Entry.{state_before, state_after};
 ghost use Rattle.macroblock.specs.InnerSource.{state_by};
 ghost use Rattle.replay.specs.Replay.{replayed, quantiser_of, replay_left};
@@ -23,10 +23,10 @@ fn replay_records(
     quantiser: u32,
 ) -> u32
     requires cols_bound { (frame.grid.cols ≤ 4096) × (frame.grid.rows ≤ 4096) × Recorded frame.grid.cols frame.grid.rows bytes.now }
-    requires all_sized { AllSized frame.grid.cols frame.grid.rows (lent_lengths (held pic.old) reference) }
-    ensures left { state_by frame result reference.entry (held pic.new)
-        ≡ all_left (state_by frame quantiser reference.entry (held pic.old)) bytes.now }
-    ensures same_slices { pic.new ≡ holding pic.old (held pic.new) }
+    requires all_sized { AllSized frame.grid.cols frame.grid.rows (lent_lengths (contents pic.old) reference) }
+    ensures left { state_by frame result reference.entry (contents pic.new)
+        ≡ all_left (state_by frame quantiser reference.entry (contents pic.old)) bytes.now }
+    ensures same_slices { pic.new ≡ with_contents pic.old (contents pic.new) }
 {
     let mut q = quantiser;
     let mut at = 0;

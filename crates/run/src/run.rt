@@ -1,6 +1,6 @@
 // The run of a list: its calls, one after another, until one is refused.
 ghost use Rattle.std.specs.Prelude.{◌≡◌};
-ghost use Rattle.picture.specs.InnerLent.{held, holding};
+ghost use Rattle.picture.specs.InnerLent.{contents, with_contents};
 ghost use Rattle.macroblock.specs.Entry.{state_before, state_after};
 ghost use Rattle.macroblock.specs.InnerSource.{state_of_source};
 ghost use Rattle.run.specs.InnerLeft.{Listed, calls_left};
@@ -23,9 +23,9 @@ fn run_calls(
     cursor: Cursor,
 ) -> Report
     requires { Listed list.now }
-    ensures left { run_left result (state_of_source source.entry result.quantiser (held pic.new)) transcript.new
-        ≡ calls_left (state_of_source source.entry cursor.quantiser (held pic.old)) list.now source.entry.bits.now cursor.place transcript.old }
-    ensures same_slices { pic.new ≡ holding pic.old (held pic.new) }
+    ensures left { run_left result (state_of_source source.entry result.quantiser (contents pic.new)) transcript.new
+        ≡ calls_left (state_of_source source.entry cursor.quantiser (contents pic.old)) list.now source.entry.bits.now cursor.place transcript.old }
+    ensures same_slices { pic.new ≡ with_contents pic.old (contents pic.new) }
 {
     let mut report = Report::new(cursor.place, cursor.quantiser);
     let mut at = 0;

@@ -2,8 +2,8 @@
 use mathlib.Core.Path.{sym, ap, ◌∙◌}
 use Rattle.picture.specs.Field.{Field}
 use Rattle.picture.specs.InnerField.{lent_field}
-use Rattle.picture.specs.InnerLent.{holding}
-use Rattle.apply.specs.InnerCoded.{given}
+use Rattle.picture.specs.InnerLent.{with_contents}
+use Rattle.apply.specs.InnerCoded.{record_given}
 use Rattle.apply.proofs.Macroblocks.{no-skip}
 use Rattle.apply.proofs.Fields.{coded-field}
 use Rattle.apply.proofs.applied.apply_coded.Goals as goal
@@ -13,13 +13,13 @@ returns c =
     let a = c.args in
     let p = a.pic.now in
     let o = a.coded in
-    let field = coded-field (given o) (lent_field o.grid.cols o.grid.rows p.mv.now p.marks.now) (no-skip o.head.mode o.some) in
+    let field = coded-field (record_given o) (lent_field o.grid.cols o.grid.rows p.mv.now p.marks.now) (no-skip o.head.mode o.some) in
     let cell = c.store_partitions.ensures in
     let mv = cell.mv_after ∙ sym (ap (λ (f : Field). f.mv) field) in
     let marks = cell.marks_after ∙ sym (ap (λ (f : Field). f.marks) field) in
     let z = c.requires in
     record {
-      applied = λ i. holding p (record { y = c.apply_luma.ensures i; cb = c.apply_chroma.ensures.cb_after i; cr = c.apply_chroma.ensures.cr_after i; mv = mv i; marks = marks i });
+      applied = λ i. with_contents p (record { y = c.apply_luma.ensures i; cb = c.apply_chroma.ensures.cb_after i; cr = c.apply_chroma.ensures.cr_after i; mv = mv i; marks = marks i });
       sized = record {
         picture = record { luma_right = c.apply_luma.auto.pic ∙ z.picture.luma_right; cb_right = c.apply_chroma.auto.cb ∙ z.picture.cb_right; cr_right = c.apply_chroma.auto.cr ∙ z.picture.cr_right };
         mv = c.store_partitions.auto.mv ∙ z.mv;

@@ -2,7 +2,7 @@
 use mathlib.Core.Path.{sym, ap, ◌∙◌}
 use mathlib.Core.List.{List}
 use Prim.Native.Nat.{ℕ}
-use Rattle.apply.specs.InnerCoded.{given}
+use Rattle.apply.specs.InnerCoded.{record_given}
 use Rattle.apply.specs.Blocks.{luma_up_to}
 use Rattle.apply.proofs.Macroblocks.{coded-luma, no-skip}
 use Rattle.apply.proofs.applied.apply_luma.Goals as goal
@@ -13,4 +13,4 @@ returns c =
     let o = a.coded in
     c.add_luma.ensures
     ∙ ap (λ (p : List ℕ). luma_up_to 16 o.grid.cols o.head o.levels.now p) c.compensate_luma.ensures
-    ∙ sym (coded-luma o.grid.cols o.grid.rows a.reference.now (given o) a.pic.now (no-skip o.head.mode o.some))
+    ∙ sym (coded-luma o.grid.cols o.grid.rows a.reference.now (record_given o) a.pic.now (no-skip o.head.mode o.some))

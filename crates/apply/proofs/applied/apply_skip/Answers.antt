@@ -2,7 +2,7 @@
 use mathlib.Core.Path.{sym, ap, ◌∙◌}
 use Prim.Native.Nat.{ℕ, ◌*◌}
 use Rattle.vectors.proofs.Following.{macroblock-cells}
-use Rattle.picture.specs.InnerLent.{holding}
+use Rattle.picture.specs.InnerLent.{with_contents}
 use Rattle.apply.proofs.Macroblocks.{skipped-luma, skipped-chroma}
 use Rattle.apply.proofs.Fields.{skipped-mv, skipped-marks}
 use Rattle.apply.proofs.applied.apply_skip.Goals as goal
@@ -26,7 +26,7 @@ returns c =
     let marks = cell.marks_after ∙ sym (skipped-marks a.grid.cols a.grid.rows a.column a.row p.mv.now p.marks.now) in
     let z = c.requires.all_sized in
     record {
-      applied = λ i. holding p (record { y = y i; cb = cb i; cr = cr i; mv = mv i; marks = marks i });
+      applied = λ i. with_contents p (record { y = y i; cb = cb i; cr = cr i; mv = mv i; marks = marks i });
       sized = record {
         picture = record { luma_right = c.copy_macroblock_from.auto.y ∙ z.picture.luma_right; cb_right = c.copy_macroblock_from.auto.cb ∙ z.picture.cb_right; cr_right = c.copy_macroblock_from.auto.cr ∙ z.picture.cr_right };
         mv = c.mark_macroblock.auto.mv ∙ z.mv;

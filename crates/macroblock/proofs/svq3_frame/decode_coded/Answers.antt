@@ -11,7 +11,7 @@ use Rattle.record.specs.InnerRecord.{record_of}
 use Rattle.record.specs.Range.{RecordRange, HeadRange}
 use Rattle.record.specs.declared.Head.{Head}
 use Rattle.state.specs.State.{State}
-use Rattle.picture.specs.InnerLent.{held}
+use Rattle.picture.specs.InnerLent.{contents}
 use Rattle.picture.proofs.Lent.{stays}
 use Rattle.macroblock.specs.InnerSource.{state_of_source}
 use Rattle.refusal.proofs.Answered.{handed}
@@ -21,7 +21,7 @@ use Rattle.macroblock.proofs.svq3_frame.decode_coded.Goals as goal
 
 -- ---- the state at entry
 abbrev S : Start → State
-S c = state_of_source c.args.source c.args.cursor.quantiser (held c.args.pic.now)
+S c = state_of_source c.args.source c.args.cursor.quantiser (contents c.args.pic.now)
 
 facts_at : (s : Start) → laws.Facts (S s) s.args.call s.args.source.bits.now s.args.cursor.place s.args.transcript.now s.args.fill s.requires.fill_value
 facts_at s = laws.facts (S s) s.args.call s.args.source.bits.now s.args.cursor.place s.args.transcript.now s.args.fill s.requires.fill_value
@@ -31,7 +31,7 @@ within-at s = laws.within (S s) s.args.call s.args.source.bits.now s.args.cursor
 
 -- ---- a record was read
 abbrev T : In_ok-head → State
-T c = state_of_source c.args.source c.args.cursor.quantiser (held c.args.pic.now)
+T c = state_of_source c.args.source c.args.cursor.quantiser (contents c.args.pic.now)
 
 abbrev H : In_ok-head → Head
 H k = k.in_ok-head.head
@@ -92,7 +92,7 @@ returns-clause-left c =
     let w = c.put_coded-filled in
     let a = c.apply_coded in
     laws.accepted (T s) s.args.call s.args.source.bits.now s.args.cursor.place s.args.transcript.now s.args.fill s.requires.fill_value s.requires.mode_nonzero _ (H (goal.at.returns-clause-left c).In_ok-head) _ (Vs (goal.at.returns-clause-left c).In_ok-head) (Ls (goal.at.returns-clause-left c).In_ok-head) c.read_coded.ensures c.in_ok-head.was
-    w.result _ w.new.out w.ensures (ap held a.ensures.applied)
+    w.result _ w.new.out w.ensures (ap contents a.ensures.applied)
 
 pub returns-in_err-head-clause-same_slices : goal.returns-in_err-head-clause-same_slices
 returns-in_err-head-clause-same_slices c = refl

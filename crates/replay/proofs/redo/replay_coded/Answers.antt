@@ -1,6 +1,6 @@
 -- `replay::redo::replay_coded`: the motion is read into zeros, and the record that it makes is applied.
 use mathlib.Core.Path.{refl, ap}
-use Rattle.picture.specs.InnerLent.{held}
+use Rattle.picture.specs.InnerLent.{contents}
 use Rattle.picture.proofs.Lent.{stays}
 use Rattle.record.specs.InnerRecord.{record_of}
 use Rattle.record.specs.Record.{no_vectors}
@@ -13,7 +13,7 @@ use Rattle.replay.proofs.redo.replay_coded.Goals.{Start}
 use Rattle.replay.proofs.redo.replay_coded.Goals as goal
 
 abbrev S : Start → State
-S c = state_by c.args.frame c.args.before.quantiser c.args.reference (held c.args.pic.now)
+S c = state_by c.args.frame c.args.before.quantiser c.args.reference (contents c.args.pic.now)
 
 pub parse_motion-requires : goal.parse_motion-requires
 unfolding no_vectors no_levels
@@ -52,7 +52,7 @@ returns c =
     let s = S (goal.at.returns c).Start in
     record {
       stepped = coded-step s c.args.bytes.now c.args.at c.args.head c.args.before.next c.requires.cols_bound.2 _ _ _ m.ensures _ _ is _
-          (applied-is s (record_of coded m.new.vectors m.new.levels) (no-skip s c.args.bytes.now c.args.at c.args.head c.args.before.next c.requires.cols_bound.2 _ _ _ m.ensures _ _ is) (ap held e));
+          (applied-is s (record_of coded m.new.vectors m.new.levels) (no-skip s c.args.bytes.now c.args.at c.args.head c.args.before.next c.requires.cols_bound.2 _ _ _ m.ensures _ _ is) (ap contents e));
       same_slices = stays c.args.pic.now e;
       sized = c.apply_coded.ensures.sized;
     }

@@ -1,6 +1,6 @@
 -- `replay::redo::replay_record`: place and mode are read; a skip is applied, and another record goes on.
 use mathlib.Core.Path.{refl, sym, ap, ◌∙◌}
-use Rattle.picture.specs.InnerLent.{held}
+use Rattle.picture.specs.InnerLent.{contents}
 use Rattle.picture.proofs.Lent.{stays}
 use Rattle.std.specs.Prelude.{Ok}
 use Rattle.transcript.specs.declared.parse.RecordStart.{RecordStart}
@@ -12,7 +12,7 @@ use Rattle.replay.proofs.redo.replay_record.Goals.{Start}
 use Rattle.replay.proofs.redo.replay_record.Goals as goal
 
 abbrev S : Start → State
-S c = state_by c.args.frame c.args.quantiser c.args.reference (held c.args.pic.now)
+S c = state_by c.args.frame c.args.quantiser c.args.reference (contents c.args.pic.now)
 
 pub apply_skip-requires : goal.apply_skip-requires
 apply_skip-requires c =
@@ -28,7 +28,7 @@ returns-in-Ok-Skip-default c =
     let e = c.apply_skip.ensures.applied in
     let s = S (goal.at.returns-in-Ok-Skip-default c).Start in
     record {
-      stepped = skip_step s c.args.bytes.now c.args.at _ _ _ (sym (ap (λ (x : RecordStart). Ok (x, c.in-Ok-Skip-default.next)) c.in-Ok-Skip-default.field-0-0-is) ∙ sym c.in-Ok-Skip-default.is ∙ c.parse_place.ensures) _ (skip-applied s _ _ (ap held e));
+      stepped = skip_step s c.args.bytes.now c.args.at _ _ _ (sym (ap (λ (x : RecordStart). Ok (x, c.in-Ok-Skip-default.next)) c.in-Ok-Skip-default.field-0-0-is) ∙ sym c.in-Ok-Skip-default.is ∙ c.parse_place.ensures) _ (skip-applied s _ _ (ap contents e));
       same_slices = stays c.args.pic.now e;
       sized = c.apply_skip.ensures.sized;
     }

@@ -1,7 +1,7 @@
 -- `run::run::run_calls` meets its contract. The loop's invariant: what the calls that are left will leave is what the list leaves.
 use mathlib.Core.Path.{refl, sym, ap, ◌∙◌}
 use native.Mathlib.Omega.{arith}
-use Rattle.picture.specs.InnerLent.{Slices, held, holding}
+use Rattle.picture.specs.InnerLent.{Slices, contents, with_contents}
 use Rattle.picture.specs.declared.Picture.{Picture}
 use Rattle.macroblock.specs.InnerSource.{state_of_source}
 use Rattle.run.specs.Left.{report_of, run_left}
@@ -45,7 +45,7 @@ loop-at-preserved c =
     let l = c.loop-at in
     let d = c.decode_inter_mb in
     let s : Slices = record { y = d.new.y; cb = d.new.cb; cr = d.new.cr; mv = d.new.mv; marks = d.new.marks } in (
-      ap (λ (p : Picture). holding p s) l.invariant.0,
+      ap (λ (p : Picture). with_contents p s) l.invariant.0,
       d.auto.transcript ∙ l.invariant.1,
       l.invariant.2,
       on l.invariant.3 c.loop-at-test.true (sym c.in-Ok.is ∙ c.read_call.ensures) l.report.quantiser refl
@@ -62,7 +62,7 @@ returns-in-Err c =
       left = stopped l.invariant.3 c.loop-at-test.true (sym c.in-Ok.is ∙ c.read_call.ensures) l.report.quantiser refl
           (λ q. state_of_source c.args.source q s)
           d.result d.new.transcript d.ensures c.in-Err.is;
-      same_slices = ap (λ (p : Picture). holding p s) l.invariant.0;
+      same_slices = ap (λ (p : Picture). with_contents p s) l.invariant.0;
     }
 
 pub returns : goal.returns
@@ -70,7 +70,7 @@ returns c =
     let l = c.loop-at in
     let r = l.report in
     record {
-      left = ap (λ (s : Stop). run_left (report_of r.accepted r.consumed r.place r.quantiser r.fill s) (state_of_source c.args.source r.quantiser (held l.pic)) l.transcript) l.invariant.2
+      left = ap (λ (s : Stop). run_left (report_of r.accepted r.consumed r.place r.quantiser r.fill s) (state_of_source c.args.source r.quantiser (contents l.pic)) l.transcript) l.invariant.2
           ∙ end l.invariant.3 c.loop-at-test.false;
       same_slices = l.invariant.0;
     }
