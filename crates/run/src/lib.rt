@@ -52,7 +52,9 @@ impl Report {
 pub fn run_nothing(frame: Frame, l: Lengths, quantiser: u32, size: usize, place: usize) -> Report
     ensures { result ≡ report_of 0 0 place quantiser 0 (ask_run frame.grid.cols frame.grid.rows l quantiser size place) }
 {
-    let mut report = Report::new(place, quantiser);
-    report.stop = ask_run(frame.grid, l, quantiser, size, place);
-    report
+    let stop = ask_run(frame.grid, l, quantiser, size, place);
+    Report {
+        stop,
+        ..Report::new(place, quantiser)
+    }
 }

@@ -130,10 +130,9 @@ pub fn run(
                 Cursor { place, quantiser },
             )
         }
-        Err(why) => {
-            let mut report = Report::new(place, quantiser);
-            report.stop = Err(why);
-            report
-        }
+        Err(why) => Report {
+            stop: Err(why),
+            ..Report::new(place, quantiser)
+        },
     }
 }

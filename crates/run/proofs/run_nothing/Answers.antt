@@ -6,4 +6,4 @@ use Rattle.run.specs.declared.Report.{Report}
 use Rattle.run.proofs.run_nothing.Goals as goal
 
 pub returns : goal.returns
-returns c = ap (λ (r : Report). record { accepted = r.accepted; consumed = r.consumed; place = r.place; quantiser = r.quantiser; fill = r.fill; stop = c.ask_run-report.result }) c.new-report.ensures ∙ ap (λ (s : Stop). report_of 0 0 c.args.place c.args.quantiser 0 s) c.ask_run-report.ensures
+returns c = ap (λ (r : Report). record { accepted = r.accepted; consumed = r.consumed; place = r.place; quantiser = r.quantiser; fill = r.fill; stop = c.ask_run-stop.result }) c.new.ensures ∙ ap (λ (s : Stop). report_of 0 0 c.args.place c.args.quantiser 0 s) c.ask_run-stop.ensures

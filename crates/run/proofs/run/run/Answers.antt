@@ -39,7 +39,7 @@ returns-else-n-eq0 c =
 
 pub returns-in-Err : goal.returns-in-Err
 returns-in-Err c =
-    ap (λ (r : Report). nothing (goal.at.returns-in-Err c).Start (record { accepted = r.accepted; consumed = r.consumed; place = r.place; quantiser = r.quantiser; fill = r.fill; stop = Err c.in-Err.why })) c.new-report.ensures
+    ap (λ (r : Report). nothing (goal.at.returns-in-Err c).Start (record { accepted = r.accepted; consumed = r.consumed; place = r.place; quantiser = r.quantiser; fill = r.fill; stop = Err c.in-Err.why })) c.new.ensures
     ∙ refused-list (S (goal.at.returns-in-Err c).Start) c.args.list.now c.args.bits.now c.args.place c.args.transcript.now (sym c.in-Err.is ∙ c.check_calls.ensures)
 
 pub check_calls-requires : goal.check_calls-requires
