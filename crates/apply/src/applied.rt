@@ -9,12 +9,13 @@ ghost use Rattle.apply.specs.InnerApplied.{applied_slices};
 ghost use Rattle.apply.specs.InnerCoded.{record_given};
 ghost use Rattle.apply.specs.Apply.{applied_luma, applied_chroma};
 
-use crate::Coded;
 use crate::svq3_frame::{compensate_chroma, compensate_luma};
 use crate::svq3_picture::store_partitions;
 use crate::svq3_recon::{add_chroma, add_luma};
+use crate::{Coded, Residual};
 use picture::svq3_picture::copy_macroblock_from;
 use picture::{Grid, Picture, Reference};
+use state::{Call, Macroblock};
 use vectors::svq3_frame::mark_macroblock;
 
 // Compensation, then the residual.
@@ -22,8 +23,23 @@ pub fn apply_luma(pic: &mut [u8], reference: &[u8], coded: Coded)
     requires { PlanesSized false coded.grid.cols coded.grid.rows pic reference }
     ensures { pic.new ≡ applied_luma coded.entry.grid.cols coded.entry.grid.rows reference.now (record_given coded.entry) pic.old }
 {
-    compensate_luma(pic, reference, coded);
-    add_luma(pic, coded);
+    let head = coded.head;
+    let call = Call {
+        column: head.column,
+        row: head.row,
+        mode: head.mode,
+    };
+    let mb = Macroblock {
+        grid: coded.grid,
+        call,
+    };
+    let residual = Residual {
+        grid: coded.grid,
+        head,
+        levels: coded.levels,
+    };
+    compensate_luma(pic, reference, coded.vectors, mb);
+    add_luma(pic, residual);
 }
 
 // The same of both chroma planes.
@@ -32,9 +48,24 @@ pub fn apply_chroma(cb: &mut [u8], cr: &mut [u8], reference: Reference, coded: C
     ensures cb_after { cb.new ≡ applied_chroma 0 coded.entry.grid.cols coded.entry.grid.rows reference.entry.cb.now (record_given coded.entry) cb.old }
     ensures cr_after { cr.new ≡ applied_chroma 1 coded.entry.grid.cols coded.entry.grid.rows reference.entry.cr.now (record_given coded.entry) cr.old }
 {
-    compensate_chroma(cb, cr, reference, coded);
-    add_chroma(cb, coded, 0);
-    add_chroma(cr, coded, 1);
+    let head = coded.head;
+    let call = Call {
+        column: head.column,
+        row: head.row,
+        mode: head.mode,
+    };
+    let mb = Macroblock {
+        grid: coded.grid,
+        call,
+    };
+    let residual = Residual {
+        grid: coded.grid,
+        head,
+        levels: coded.levels,
+    };
+    compensate_chroma(cb, cr, reference, coded.vectors, mb);
+    add_chroma(cb, residual, 0);
+    add_chroma(cr, residual, 1);
 }
 
 // A record that is no skip: the three planes, the vectors and the marks.
@@ -45,7 +76,17 @@ pub fn apply_coded(pic: &mut Picture, reference: Reference, coded: Coded)
 {
     apply_luma(pic.y, reference.y, coded);
     apply_chroma(pic.cb, pic.cr, reference, coded);
-    store_partitions(pic.mv, pic.marks, coded);
+    let head = coded.head;
+    let call = Call {
+        column: head.column,
+        row: head.row,
+        mode: head.mode,
+    };
+    let mb = Macroblock {
+        grid: coded.grid,
+        call,
+    };
+    store_partitions(pic.mv, pic.marks, coded.vectors, mb);
 }
 
 // A skip: its three blocks are copied.

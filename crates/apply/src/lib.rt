@@ -1,6 +1,7 @@
 #![tactic(auto)]
 // What a record does to the planes, the vectors and the marks.
-ghost use Rattle.std.specs.Prelude.{◌<◌, ◌≤◌};
+ghost use Rattle.std.specs.Prelude.{◌≡◌, ◌<◌, ◌≤◌, length};
+ghost use Rattle.picture.specs.InnerPicture.{Within};
 ghost use Rattle.record.specs.InnerRecord.{record_of};
 ghost use Rattle.record.specs.Range.{RecordRange};
 
@@ -23,4 +24,16 @@ pub struct Coded<'a> {
     pub ghost high: { grid.rows ≤ 4096 },
     pub ghost range: { RecordRange grid.cols grid.rows (record_of head vectors.now levels.now) },
     pub ghost some: { 0 < head.mode },
+}
+
+// The levels of a macroblock, and what its head says of them.
+#[derive(Clone, Copy)]
+pub struct Residual<'a> {
+    pub grid: Grid,
+    pub head: Head,
+    pub levels: &'a [i32; 392],
+    pub ghost within: { Within grid.cols grid.rows head.column head.row },
+    pub ghost pattern: { head.pattern ≤ 47 },
+    pub ghost quantiser: { head.quantiser ≤ 31 },
+    pub ghost count: { length levels.now ≡ 392 },
 }

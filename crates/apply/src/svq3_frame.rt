@@ -6,12 +6,11 @@ ghost use Rattle.compensation.specs.InnerTaps.{Placed, TapsIn};
 ghost use Rattle.vectors.specs.Modes.{num_motion_vectors};
 ghost use Rattle.apply.specs.Moved.{unit, vector_x, vector_y, moved_once, moved_up_to};
 ghost use Rattle.apply.specs.InnerMoved.{PlanesSized, part_block};
-ghost use Rattle.apply.specs.InnerCoded.{call_given};
 
-use crate::Coded;
 use compensation::plane::Plane;
 use compensation::svq3_mc::{Taps, compensate_both, compensate_taps, taps_of};
 use picture::{Block, Reference, Size};
+use state::Macroblock;
 use vectors::svq3_mb::{Partition, num_motion_vectors};
 
 // A number of a plane: chroma has half as many samples each way.
@@ -29,16 +28,15 @@ fn vector_over(chroma: bool, component: i32) -> i32
 }
 
 // Where partition i lies in a plane of a picture of that grid.
-fn block_of(coded: Coded, chroma: bool, i: usize) -> Block
-    requires { i < num_motion_vectors coded.head.mode }
-    ensures { result ≡ part_block (unit chroma) coded.entry.grid.cols (call_given coded.entry) i }
+fn block_of(mb: Macroblock, chroma: bool, i: usize) -> Block
+    requires { i < num_motion_vectors mb.call.mode }
+    ensures { result ≡ part_block (unit chroma) mb.grid.cols mb.call i }
 {
-    let head = coded.head;
-    let part = Partition::of_mode(head.mode, i);
-    let column = head.column as usize;
-    let row = head.row as usize;
+    let part = Partition::of_mode(mb.call.mode, i);
+    let column = mb.call.column as usize;
+    let row = mb.call.row as usize;
     Block {
-        stride: over(chroma, 16) * coded.grid.cols,
+        stride: over(chroma, 16) * mb.grid.cols,
         x: over(chroma, 16 * column + 4 * part.x),
         y: over(chroma, 16 * row + 4 * part.y),
         w: over(chroma, 4 * part.wide),
@@ -59,18 +57,24 @@ fn taps_in(vectors: &[i32; 32], b: Block, size: Size, chroma: bool, i: usize) ->
 }
 
 // Partition i of a macroblock's luma.
-// `PlanesSized` ties the planes to the grid, here and below: a struct of a plane and its reference would be one more for each of the three. That i is the number of a partition is no fact of a `Coded`.
-fn compensate_partition(pic: &mut [u8], reference: &[u8], coded: Coded, i: usize)
-    requires index { i < num_motion_vectors coded.head.mode }
-    requires planes_sized { PlanesSized false coded.grid.cols coded.grid.rows pic reference }
-    ensures { pic.new ≡ moved_once (unit false) coded.entry.grid.cols coded.entry.grid.rows reference.now (call_given coded.entry) coded.entry.vectors.now i pic.old }
+// `PlanesSized` ties the planes to the grid, here and below: a struct of a plane and its reference would be one more for each of the three. That i is the number of a partition is no fact of a `Macroblock`.
+fn compensate_partition(
+    pic: &mut [u8],
+    reference: &[u8],
+    vectors: &[i32; 32],
+    mb: Macroblock,
+    i: usize,
+)
+    requires index { i < num_motion_vectors mb.call.mode }
+    requires planes_sized { PlanesSized false mb.grid.cols mb.grid.rows pic reference }
+    ensures { pic.new ≡ moved_once (unit false) mb.grid.cols mb.grid.rows reference.now mb.call vectors.now i pic.old }
 {
-    let b = block_of(coded, false, i);
+    let b = block_of(mb, false, i);
     let size = Size {
         width: b.stride,
-        height: 16 * coded.grid.rows,
+        height: 16 * mb.grid.rows,
     };
-    let t = taps_in(coded.vectors, b, size, false, i);
+    let t = taps_in(vectors, b, size, false, i);
     let plane = Plane {
         samples: reference,
         size,
@@ -79,40 +83,53 @@ fn compensate_partition(pic: &mut [u8], reference: &[u8], coded: Coded, i: usize
 }
 
 // All partitions of a macroblock's luma.
-pub(crate) fn compensate_luma(pic: &mut [u8], reference: &[u8], coded: Coded)
-    requires { PlanesSized false coded.grid.cols coded.grid.rows pic reference }
-    ensures { pic.new ≡ moved_up_to (num_motion_vectors coded.entry.head.mode) (unit false) coded.entry.grid.cols coded.entry.grid.rows reference.now (call_given coded.entry) coded.entry.vectors.now pic.old }
+pub fn compensate_luma(pic: &mut [u8], reference: &[u8], vectors: &[i32; 32], mb: Macroblock)
+    requires planes_sized { PlanesSized false mb.grid.cols mb.grid.rows pic reference }
+    ensures { pic.new ≡ moved_up_to (num_motion_vectors mb.call.mode) (unit false) mb.grid.cols mb.grid.rows reference.now mb.call vectors.now pic.old }
 {
-    let n = num_motion_vectors(coded.head.mode);
+    let n = num_motion_vectors(mb.call.mode);
     for i in 0..n {
-        compensate_partition(pic, reference, coded, i);
+        compensate_partition(pic, reference, vectors, mb, i);
     }
 }
 
 // Partition i of both chroma planes: they read the same taps. Luma has a form of its own, for the reason that compensation's tiles give.
-fn compensate_pair(cb: &mut [u8], cr: &mut [u8], reference: Reference, coded: Coded, i: usize)
-    requires index { i < num_motion_vectors coded.head.mode }
-    requires planes_sized { PlanesSized true coded.grid.cols coded.grid.rows cb reference.cb × PlanesSized true coded.grid.cols coded.grid.rows cr reference.cr }
-    ensures cb_after { cb.new ≡ moved_once (unit true) coded.entry.grid.cols coded.entry.grid.rows reference.entry.cb.now (call_given coded.entry) coded.entry.vectors.now i cb.old }
-    ensures cr_after { cr.new ≡ moved_once (unit true) coded.entry.grid.cols coded.entry.grid.rows reference.entry.cr.now (call_given coded.entry) coded.entry.vectors.now i cr.old }
+fn compensate_pair(
+    cb: &mut [u8],
+    cr: &mut [u8],
+    reference: Reference,
+    vectors: &[i32; 32],
+    mb: Macroblock,
+    i: usize,
+)
+    requires index { i < num_motion_vectors mb.call.mode }
+    requires planes_sized { PlanesSized true mb.grid.cols mb.grid.rows cb reference.cb × PlanesSized true mb.grid.cols mb.grid.rows cr reference.cr }
+    ensures cb_after { cb.new ≡ moved_once (unit true) mb.grid.cols mb.grid.rows reference.entry.cb.now mb.call vectors.now i cb.old }
+    ensures cr_after { cr.new ≡ moved_once (unit true) mb.grid.cols mb.grid.rows reference.entry.cr.now mb.call vectors.now i cr.old }
 {
-    let b = block_of(coded, true, i);
+    let b = block_of(mb, true, i);
     let size = Size {
         width: b.stride,
-        height: 8 * coded.grid.rows,
+        height: 8 * mb.grid.rows,
     };
-    let t = taps_in(coded.vectors, b, size, true, i);
+    let t = taps_in(vectors, b, size, true, i);
     compensate_both(cb, cr, reference.cb, reference.cr, b, size, t);
 }
 
 // All partitions of both chroma planes.
-pub(crate) fn compensate_chroma(cb: &mut [u8], cr: &mut [u8], reference: Reference, coded: Coded)
-    requires { PlanesSized true coded.grid.cols coded.grid.rows cb reference.cb × PlanesSized true coded.grid.cols coded.grid.rows cr reference.cr }
-    ensures cb_after { cb.new ≡ moved_up_to (num_motion_vectors coded.entry.head.mode) (unit true) coded.entry.grid.cols coded.entry.grid.rows reference.entry.cb.now (call_given coded.entry) coded.entry.vectors.now cb.old }
-    ensures cr_after { cr.new ≡ moved_up_to (num_motion_vectors coded.entry.head.mode) (unit true) coded.entry.grid.cols coded.entry.grid.rows reference.entry.cr.now (call_given coded.entry) coded.entry.vectors.now cr.old }
+pub fn compensate_chroma(
+    cb: &mut [u8],
+    cr: &mut [u8],
+    reference: Reference,
+    vectors: &[i32; 32],
+    mb: Macroblock,
+)
+    requires planes_sized { PlanesSized true mb.grid.cols mb.grid.rows cb reference.cb × PlanesSized true mb.grid.cols mb.grid.rows cr reference.cr }
+    ensures cb_after { cb.new ≡ moved_up_to (num_motion_vectors mb.call.mode) (unit true) mb.grid.cols mb.grid.rows reference.entry.cb.now mb.call vectors.now cb.old }
+    ensures cr_after { cr.new ≡ moved_up_to (num_motion_vectors mb.call.mode) (unit true) mb.grid.cols mb.grid.rows reference.entry.cr.now mb.call vectors.now cr.old }
 {
-    let n = num_motion_vectors(coded.head.mode);
+    let n = num_motion_vectors(mb.call.mode);
     for k in 0..n {
-        compensate_pair(cb, cr, reference, coded, k);
+        compensate_pair(cb, cr, reference, vectors, mb, k);
     }
 }

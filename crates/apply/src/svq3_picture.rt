@@ -5,10 +5,9 @@ ghost use Rattle.picture.specs.InnerRows.{row};
 ghost use Rattle.vectors.specs.Modes.{num_motion_vectors};
 ghost use Rattle.picture.specs.InnerField.{lent_field};
 ghost use Rattle.apply.specs.Apply.{stored_up_to};
-ghost use Rattle.apply.specs.InnerCoded.{call_given};
 ghost use Rattle.apply.specs.InnerCells.{owner_of, own_number};
 
-use crate::Coded;
+use state::Macroblock;
 use vectors::svq3_frame::mark_row;
 
 // The partition of each cell of a macroblock, a hex digit each, by rows, the first the lowest.
@@ -42,19 +41,19 @@ fn store_row(mv: &mut [i32], vectors: &[i32; 32], at: usize, four: u64)
 }
 
 // The vectors of all partitions, marked 1, in each of their cells.
-pub(crate) fn store_partitions(mv: &mut [i32], marks: &mut [u8], coded: Coded)
-    requires { (length mv.old ≡ 2 * cell_count coded.grid.cols coded.grid.rows) × (length marks.old ≡ cell_count coded.grid.cols coded.grid.rows) }
-    ensures mv_after { mv.new ≡ (stored_up_to (num_motion_vectors coded.entry.head.mode) (call_given coded.entry) coded.entry.vectors.now (lent_field coded.entry.grid.cols coded.entry.grid.rows mv.old marks.old)).mv }
-    ensures marks_after { marks.new ≡ (stored_up_to (num_motion_vectors coded.entry.head.mode) (call_given coded.entry) coded.entry.vectors.now (lent_field coded.entry.grid.cols coded.entry.grid.rows mv.old marks.old)).marks }
+pub fn store_partitions(mv: &mut [i32], marks: &mut [u8], vectors: &[i32; 32], mb: Macroblock)
+    requires some { 0 < mb.call.mode }
+    requires mv_len { (length mv.old ≡ 2 * cell_count mb.grid.cols mb.grid.rows) × (length marks.old ≡ cell_count mb.grid.cols mb.grid.rows) }
+    ensures mv_after { mv.new ≡ (stored_up_to (num_motion_vectors mb.call.mode) mb.call vectors.now (lent_field mb.grid.cols mb.grid.rows mv.old marks.old)).mv }
+    ensures marks_after { marks.new ≡ (stored_up_to (num_motion_vectors mb.call.mode) mb.call vectors.now (lent_field mb.grid.cols mb.grid.rows mv.old marks.old)).marks }
 {
-    let head = coded.head;
-    let stride = 4 * coded.grid.cols;
-    let x = 4 * (head.column as usize);
-    let y = 4 * (head.row as usize);
-    let whose = owners(head.mode);
+    let stride = 4 * mb.grid.cols;
+    let x = 4 * (mb.call.column as usize);
+    let y = 4 * (mb.call.row as usize);
+    let whose = owners(mb.call.mode);
     for r in 0..4 {
         let at = (y + r) * stride + x;
-        store_row(mv, coded.vectors, 2 * at, whose >> (16 * r));
+        store_row(mv, vectors, 2 * at, whose >> (16 * r));
         mark_row(marks, at, 4);
     }
 }

@@ -1,5 +1,6 @@
 #![tactic(auto)]
 // Bits and the codes made of them. A reader takes the bytes and a bit place by value and answers the value and the next place.
+// Not one struct of the two: a place is also what a caller has, keeps at a refusal, and goes back to.
 ghost use Rattle.std.specs.Prelude.{◌<◌, ◌^◌, length};
 
 pub mod bitreader;

@@ -18,6 +18,7 @@ use transcript::write::{put_coded, put_skip};
 
 // A macroblock that is no skip: read, then written and applied.
 // That all questions were answered with yes is a clause of three functions: it is about all that they are given, the lengths of the slices too.
+// The transcript's fill is a number beside it, as C gives the two.
 fn decode_coded(
     pic: &mut Picture,
     transcript: &mut [u8],

@@ -110,7 +110,7 @@ fn read_vectors(
     Ok((clipped, p))
 }
 
-// A delta is read only if the pattern is not 0 and delta-enable is on.
+// A delta is read only if the pattern is not 0 and delta-enable is on. A quantiser is a number with the clause that it is at most 31, here and below: a `Cursor` holds whatever its caller gave, and the sum is made of the number.
 fn read_quantiser(
     bits: Bits,
     at: usize,

@@ -3,7 +3,7 @@
 ghost use Rattle.std.specs.Prelude.{◌≡◌};
 ghost use Rattle.record.specs.Record.{place_head, with_motion, with_residual};
 
-// The numbers of a record. Its vectors and its levels stand beside it, in slices of 32 and 392 numbers.
+// The numbers of a record. Its vectors and its levels stand beside it, in arrays of 32 and 392 numbers.
 #[derive(Clone, Copy)]
 pub struct Head {
     pub column: u32,

@@ -2,10 +2,23 @@
 use mathlib.Core.Path.{sym, ap, ◌∙◌}
 use mathlib.Core.List.{List}
 use Prim.Native.Nat.{ℕ}
+use lib.Dec.{lit<}
 use Rattle.apply.specs.InnerCoded.{record_given}
 use Rattle.apply.specs.Blocks.{chroma_added}
-use Rattle.apply.proofs.Macroblocks.{coded-chroma, no-skip}
+use Rattle.apply.proofs.Macroblocks.{coded-chroma, place-within, no-skip}
 use Rattle.apply.proofs.applied.apply_chroma.Goals as goal
+
+pub invariant_of-mb : goal.invariant_of-mb
+invariant_of-mb c = record { within = place-within c.args.coded.range c.args.coded.wide c.args.coded.high; mode = c.args.coded.range.mode }
+
+pub invariant_of-residual : goal.invariant_of-residual
+invariant_of-residual c = let k = c.args.coded.range.coded c.args.coded.some in record { within = place-within c.args.coded.range c.args.coded.wide c.args.coded.high; pattern = k.pattern; quantiser = k.quantiser; count = k.levels.count }
+
+pub add_chroma-requires : goal.add_chroma-requires
+add_chroma-requires c = record { pic_len = (c.compensate_chroma.auto.cb ∙ c.requires.0.0, lit< tt); lists = (c.args.coded.range.coded c.args.coded.some).levels }
+
+pub add_chroma-requires-2 : goal.add_chroma-requires-2
+add_chroma-requires-2 c = record { pic_len = (c.compensate_chroma.auto.cr ∙ c.requires.1.0, lit< tt); lists = (c.args.coded.range.coded c.args.coded.some).levels }
 
 pub returns : goal.returns
 returns c =

@@ -4,9 +4,15 @@ use Rattle.picture.specs.Field.{Field}
 use Rattle.picture.specs.InnerField.{lent_field}
 use Rattle.picture.specs.InnerLent.{with_contents}
 use Rattle.apply.specs.InnerCoded.{record_given}
-use Rattle.apply.proofs.Macroblocks.{no-skip}
+use Rattle.apply.proofs.Macroblocks.{place-within, no-skip}
 use Rattle.apply.proofs.Fields.{coded-field}
 use Rattle.apply.proofs.applied.apply_coded.Goals as goal
+
+pub invariant_of-mb : goal.invariant_of-mb
+invariant_of-mb c = record { within = place-within c.args.coded.range c.args.coded.wide c.args.coded.high; mode = c.args.coded.range.mode }
+
+pub store_partitions-requires : goal.store_partitions-requires
+store_partitions-requires c = record { some = c.args.coded.some; mv_len = (c.requires.mv, c.requires.marks) }
 
 pub returns : goal.returns
 returns c =

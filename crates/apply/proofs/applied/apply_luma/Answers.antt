@@ -4,8 +4,14 @@ use mathlib.Core.List.{List}
 use Prim.Native.Nat.{ℕ}
 use Rattle.apply.specs.InnerCoded.{record_given}
 use Rattle.apply.specs.Blocks.{luma_up_to}
-use Rattle.apply.proofs.Macroblocks.{coded-luma, no-skip}
+use Rattle.apply.proofs.Macroblocks.{coded-luma, place-within, no-skip}
 use Rattle.apply.proofs.applied.apply_luma.Goals as goal
+
+pub invariant_of-mb : goal.invariant_of-mb
+invariant_of-mb c = record { within = place-within c.args.coded.range c.args.coded.wide c.args.coded.high; mode = c.args.coded.range.mode }
+
+pub invariant_of-residual : goal.invariant_of-residual
+invariant_of-residual c = let k = c.args.coded.range.coded c.args.coded.some in record { within = place-within c.args.coded.range c.args.coded.wide c.args.coded.high; pattern = k.pattern; quantiser = k.quantiser; count = k.levels.count }
 
 pub returns : goal.returns
 returns c =

@@ -6,7 +6,6 @@ use native.Mathlib.Omega.{arith}
 use lib.ListN.{length}
 use Rattle.vectors.specs.Modes.{num_motion_vectors}
 use Rattle.apply.specs.Moved.{unit, moved_up_to}
-use Rattle.apply.specs.InnerCoded.{call_given}
 use Rattle.apply.proofs.Partitions.{moved-all-length, moved_more}
 use Rattle.apply.proofs.svq3_frame.compensate_luma.Goals as goal
 
@@ -16,18 +15,18 @@ loop-i-init c = refl
 
 pub compensate_partition-requires : goal.compensate_partition-requires
 compensate_partition-requires c =
-    let a = c.args in record { index = omega (arith, c.num_motion_vectors-n.ensures); planes_sized = (ap length c.loop-i.invariant ∙ moved-all-length _ _ _ _ _ _ _ _ ∙ c.requires.0, c.requires.1) }
+    let a = c.args in record { index = omega (arith, c.num_motion_vectors-n.ensures); planes_sized = (ap length c.loop-i.invariant ∙ moved-all-length _ _ _ _ _ _ _ _ ∙ c.requires.planes_sized.0, c.requires.planes_sized.1) }
 
 pub loop-i-preserved : goal.loop-i-preserved
 loop-i-preserved c =
     let a = c.args in
-    moved_more c.loop-i.i (unit false) a.coded.grid.cols a.coded.grid.rows a.reference.now (call_given a.coded) a.coded.vectors.now a.pic.now c.loop-i.invariant c.compensate_partition.ensures
+    moved_more c.loop-i.i (unit false) a.mb.grid.cols a.mb.grid.rows a.reference.now a.mb.call a.vectors.now a.pic.now c.loop-i.invariant c.compensate_partition.ensures
 
 pub returns : goal.returns
 returns c =
     let a = c.args in
-    let e : c.loop-i.i ≡ num_motion_vectors a.coded.head.mode = omega (arith, c.num_motion_vectors-n.ensures) in
-    c.loop-i.invariant ∙ ap (λ (n : ℕ). moved_up_to n (unit false) a.coded.grid.cols a.coded.grid.rows a.reference.now (call_given a.coded) a.coded.vectors.now a.pic.now) e
+    let e : c.loop-i.i ≡ num_motion_vectors a.mb.call.mode = omega (arith, c.num_motion_vectors-n.ensures) in
+    c.loop-i.invariant ∙ ap (λ (n : ℕ). moved_up_to n (unit false) a.mb.grid.cols a.mb.grid.rows a.reference.now a.mb.call a.vectors.now a.pic.now) e
 
 pub num_motion_vectors-n-requires : goal.num_motion_vectors-n-requires
-num_motion_vectors-n-requires c = c.args.coded.range.mode
+num_motion_vectors-n-requires c = c.args.mb.mode

@@ -8,5 +8,5 @@ use Rattle.apply.proofs.svq3_picture.store_partitions.Given as goal
 
 abbrev pub invariant-loop-r : goal.invariant-loop-r
 invariant-loop-r l =
-    (l.mv ≡ rows l.initial.mv (2 * l.stride) (2 * l.x) l.y (λ d. own_number l.coded.vectors.now (l.whose / 2 ^ (16 * d))) 8 l.r)
+    (l.mv ≡ rows l.initial.mv (2 * l.stride) (2 * l.x) l.y (λ d. own_number l.vectors (l.whose / 2 ^ (16 * d))) 8 l.r)
     × (l.marks ≡ rows l.initial.marks l.stride l.x l.y (always 1) 4 l.r)

@@ -14,31 +14,30 @@ use lib.IntN.{ℤ}
 use Rattle.transform.proofs.Slices.{luma-slice}
 use Rattle.levels.specs.Pattern.{quadrant_coded}
 use Rattle.apply.specs.InnerSquares.{quadrant_added}
-use Rattle.apply.proofs.Macroblocks.{place-within}
 use Rattle.apply.proofs.Residuals.{quadrant-inside, all-levels}
 use Rattle.apply.proofs.svq3_recon.add_quadrant.Goals as goal
 
 pub invariant_of-add_luma_quadrant : goal.invariant_of-add_luma_quadrant
-invariant_of-add_luma_quadrant c = record { ranged = (c.args.coded.range.coded c.args.coded.some).quantiser }
+invariant_of-add_luma_quadrant c = record { ranged = c.args.residual.quantiser }
 
 pub add_luma_quadrant-requires : goal.add_luma_quadrant-requires
 add_luma_quadrant-requires c =
-    record { inside = quadrant-inside c.args.q c.requires.quadrant (plane-inside 16 (lit< tt) (place-within c.args.coded.range c.args.coded.wide c.args.coded.high) c.requires.pic_len); levels = omega (arith, length-drop (64 * c.args.q) c.args.coded.levels.now, c.requires.quadrant) }
+    record { inside = quadrant-inside c.args.q c.requires.quadrant (plane-inside 16 (lit< tt) c.args.residual.within c.requires.pic_len); levels = omega (arith, length-drop (64 * c.args.q) c.args.residual.levels.now, c.requires.quadrant) }
 
 pub returns-then-luma_quadrant_coded : goal.returns-then-luma_quadrant_coded
 unfolding quadrant_added when◌then◌else◌
 returns-then-luma_quadrant_coded c =
-    let e : quadrant_coded c.args.coded.head.pattern c.args.q ≡ true = sym c.luma_quadrant_coded.ensures ∙ c.if-luma_quadrant_coded.true in
+    let e : quadrant_coded c.args.residual.head.pattern c.args.q ≡ true = sym c.luma_quadrant_coded.ensures ∙ c.if-luma_quadrant_coded.true in
     let a = c.args in
-    let h = a.coded.head in
-    let square = added_four a.pic.now (16 * a.coded.grid.cols) (16 * h.column + 8 * (a.q % 2)) (16 * h.row + 8 * (a.q / 2)) in
+    let h = a.residual.head in
+    let square = added_four a.pic.now (16 * a.residual.grid.cols) (16 * h.column + 8 * (a.q % 2)) (16 * h.row + 8 * (a.q / 2)) in
     rw e
     (c.add_luma_quadrant.ensures
-    ∙ all-levels (λ (l : List ℤ). square (λ b. luma_residual h.quantiser l (16 * b))) (64 * a.q) a.coded.levels.now (c.args.coded.range.coded c.args.coded.some).levels.count
-    ∙ (λ i. square (λ b. luma-slice h.quantiser (64 * a.q) (16 * b) a.coded.levels.now i)))
+    ∙ all-levels (λ (l : List ℤ). square (λ b. luma_residual h.quantiser l (16 * b))) (64 * a.q) a.residual.levels.now c.args.residual.count
+    ∙ (λ i. square (λ b. luma-slice h.quantiser (64 * a.q) (16 * b) a.residual.levels.now i)))
 
 pub returns-else-luma_quadrant_coded : goal.returns-else-luma_quadrant_coded
 unfolding quadrant_added when◌then◌else◌
 returns-else-luma_quadrant_coded c =
-    let e : quadrant_coded c.args.coded.head.pattern c.args.q ≡ false = sym c.luma_quadrant_coded.ensures ∙ c.if-luma_quadrant_coded.false in
+    let e : quadrant_coded c.args.residual.head.pattern c.args.q ≡ false = sym c.luma_quadrant_coded.ensures ∙ c.if-luma_quadrant_coded.false in
     rw e
