@@ -13,7 +13,7 @@ use picture::{Block, Reference, Size};
 use state::Macroblock;
 use vectors::svq3_mb::{Partition, num_motion_vectors};
 
-// A number of a plane: chroma has half as many samples each way.
+// A number of a plane: chroma has half as many samples each way. By a truth value, here and below: luma and chroma are the planes that there are, and a unit of 1 or 2 would be one more number to ask of callers.
 fn over(chroma: bool, v: usize) -> usize
     ensures { result ≡ v / unit chroma }
 {

@@ -2,7 +2,7 @@
 // its run in the next, its level and 4 above; 255 where no code ends within them. The compiler makes tables in constant memory of them.
 // An entry is no `Option`: the compiler then makes a jump for each entry and no table. A heavy macroblock at 22 × 18 took 1740 ns where it takes
 // 1490, and the heavy film at 120 × 68 was 3.3 to 3.6 times as fast where it is 3.9 to 4.4, with a bar of 3.6 (`make bench`).
-// Two functions: one over the book would have the arms of both, and none of them once. The bits are a number with the clause that it is below 64,
+// Two functions: one over the book would have the arms of both, one set behind the other. The bits are a number with the clause that it is below 64,
 // here and in `entry_of`: it is made in one place, and a type would be opened at once by the `match`.
 ghost use Rattle.std.specs.Prelude.{◌≡◌, ◌<◌, get_or};
 ghost use Rattle.levels.specs.InnerEntries.{normal_scan, chroma_dc};

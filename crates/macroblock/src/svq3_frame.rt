@@ -132,34 +132,25 @@ pub fn decode_inter_mb(
     let row = call.row;
     let mode = call.mode;
     let made = Call { column, row, mode };
-    let l = Lengths {
-        y: y.len(),
-        cb: cb.len(),
-        cr: cr.len(),
-        mv: mv.len(),
-        marks: marks.len(),
-        ry: ry.len(),
-        rcb: rcb.len(),
-        rcr: rcr.len(),
-    };
-    let free = transcript.len().saturating_sub(fill);
-    ask_call(frame.grid, l, made, quantiser, bits.len(), place, free)?;
-    let reference = Reference {
-        y: ry,
-        cb: rcb,
-        cr: rcr,
-    };
-    let source = Source {
-        frame,
-        reference,
-        bits,
-    };
     let mut pic = Picture {
         y,
         cb,
         cr,
         mv,
         marks,
+    };
+    let reference = Reference {
+        y: ry,
+        cb: rcb,
+        cr: rcr,
+    };
+    let l = Lengths::of(&pic, reference);
+    let free = transcript.len().saturating_sub(fill);
+    ask_call(frame.grid, l, made, quantiser, bits.len(), place, free)?;
+    let source = Source {
+        frame,
+        reference,
+        bits,
     };
     let cursor = Cursor { place, quantiser };
     decode_asked(&mut pic, transcript, source, made, cursor, fill)

@@ -14,7 +14,7 @@ use record::Head;
 use state::Frame;
 use transcript::parse::{RecordStart, parse_motion, parse_place};
 
-// The quantiser after a record, and the place behind it.
+// The quantiser after a record, and the place behind it: one of bytes, and so no `Cursor`.
 #[derive(Clone, Copy)]
 pub struct Step {
     pub quantiser: u32,

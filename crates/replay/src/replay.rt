@@ -56,18 +56,6 @@ pub fn replay(
     ensures { replay_left result (state_after frame (quantiser_of quantiser result) ry rcb rcr y cb cr mv marks)
         ≡ replayed (state_before frame quantiser ry rcb rcr y cb cr mv marks) bytes.now }
 {
-    let l = Lengths {
-        y: y.len(),
-        cb: cb.len(),
-        cr: cr.len(),
-        mv: mv.len(),
-        marks: marks.len(),
-        ry: ry.len(),
-        rcb: rcb.len(),
-        rcr: rcr.len(),
-    };
-    ask_replay(frame.grid, l, quantiser)?;
-    let records = check_records(bytes, frame.grid)?;
     let mut pic = Picture {
         y,
         cb,
@@ -80,6 +68,9 @@ pub fn replay(
         cb: rcb,
         cr: rcr,
     };
+    let l = Lengths::of(&pic, reference);
+    ask_replay(frame.grid, l, quantiser)?;
+    let records = check_records(bytes, frame.grid)?;
     let quantiser = replay_records(&mut pic, reference, bytes, frame, quantiser);
     Ok(ReplayReport { records, quantiser })
 }

@@ -92,19 +92,6 @@ pub fn run(
 {
     match check_calls(list) {
         Ok(n) => {
-            if n == 0 {
-                let l = Lengths {
-                    y: y.len(),
-                    cb: cb.len(),
-                    cr: cr.len(),
-                    mv: mv.len(),
-                    marks: marks.len(),
-                    ry: ry.len(),
-                    rcb: rcb.len(),
-                    rcr: rcr.len(),
-                };
-                return run_nothing(frame, l, quantiser, bits.len(), place);
-            }
             let mut pic = Picture {
                 y,
                 cb,
@@ -117,6 +104,10 @@ pub fn run(
                 cb: rcb,
                 cr: rcr,
             };
+            if n == 0 {
+                let l = Lengths::of(&pic, reference);
+                return run_nothing(frame, l, quantiser, bits.len(), place);
+            }
             let source = Source {
                 frame,
                 reference,

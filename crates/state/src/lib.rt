@@ -3,9 +3,11 @@
 
 ghost use Rattle.std.specs.Prelude.{◌≡◌, true, ◌≤◌};
 ghost use Rattle.picture.specs.InnerPicture.{Within};
+ghost use Rattle.picture.specs.InnerLent.{contents};
+ghost use Rattle.state.specs.InnerSizes.{lent_lengths};
 ghost use Rattle.state.specs.Questions.{grid_right, planes_right, state_right, reference_there, call_right, place_in, yes, then_ask, ask_start, ask_quantiser, ask_place, ask_rest, ask_call, ask_run, ask_replay, sides_fit};
 
-use picture::Grid;
+use picture::{Grid, Picture, Reference};
 use refusal::Refusal;
 
 #[derive(Clone, Copy)]
@@ -60,13 +62,31 @@ pub struct Lengths {
     pub rcr: usize,
 }
 
+impl Lengths {
+    // Those of a picture and of the planes that it is predicted from.
+    pub fn of(pic: &Picture, reference: Reference) -> Self
+        ensures { result ≡ lent_lengths (contents pic.now) reference.entry }
+    {
+        Lengths {
+            y: pic.y.len(),
+            cb: pic.cb.len(),
+            cr: pic.cr.len(),
+            mv: pic.mv.len(),
+            marks: pic.marks.len(),
+            ry: reference.y.len(),
+            rcb: reference.cb.len(),
+            rcr: reference.cr.len(),
+        }
+    }
+}
+
 pub fn grid_right(grid: Grid) -> bool
     ensures { result ≡ grid_right grid.cols grid.rows }
 {
     (1 <= grid.cols) & (grid.cols <= 4096) & (1 <= grid.rows) & (grid.rows <= 4096)
 }
 
-// That a grid passed question 1 is a clause where it is counted with: `Grid` and `Frame` hold whatever an entry is given, and a second pair of types would say no more.
+// That a grid passed question 1 is a clause where cells or samples are counted with it: `Grid` and `Frame` hold whatever an entry is given, and a second pair of types for a grid that was asked would say no more.
 fn planes_right(grid: Grid, y: usize, cb: usize, cr: usize) -> bool
     requires { grid_right grid.cols grid.rows ≡ true }
     ensures { result ≡ planes_right grid.cols grid.rows y cb cr }

@@ -70,8 +70,8 @@ impl Neighbours {
         }
     }
 
-    // The same of a row whose six cells all lie on the picture. By the number: pairs of a mark and of two numbers, counted, are of two parts
-    // that have to be named first, and that is longer.
+    // The same of a row whose six cells all lie on the picture. By the number: a cell takes a mark and the two
+    // numbers of its vector, which lie in two slices; zipped, and with the cells counted, the loop is longer.
     fn copy_row(&mut self, cells: Cells, column: usize, y: usize, at: usize)
         requires lent { (at + 6 ≤ 30) × (y * (4 * cells.grid.cols) ≤ length cells.marks.now) }
         requires whole { (0 < column) × (0 < y) × (column + 1 < cells.grid.cols) }

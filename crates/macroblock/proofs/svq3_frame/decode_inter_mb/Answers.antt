@@ -2,6 +2,9 @@
 use mathlib.Core.Path.{sym, ap, ◌∙◌}
 use borrow.Author.Rules.{rules}
 use Rattle.picture.specs.InnerLent.{Slices}
+use lib.ListN.{length}
+use Rattle.state.specs.Questions.{ask_call}
+use Rattle.state.specs.declared.Lengths.{Lengths}
 use Rattle.state.specs.State.{State}
 use Rattle.macroblock.specs.Entry.{state_of, mb_left, quantiser_by}
 use Rattle.refusal.proofs.Answered.{handed}
@@ -15,7 +18,7 @@ S c = state_of c.args.frame c.args.quantiser c.args.ry.now c.args.rcb.now c.args
 
 pub decode_asked-requires : goal.decode_asked-requires
 decode_asked-requires c =
-    sym (laws.asked_by (S (goal.at.decode_asked-requires c).Start) c.args.call c.args.bits.now c.args.place c.args.transcript.now c.args.fill _ _ c.ask_call.ensures c.saturating_sub-free.ensures) ∙ c.in_ok-ask_call.was
+    sym (laws.asked_by (S (goal.at.decode_asked-requires c).Start) c.args.call c.args.bits.now c.args.place c.args.transcript.now c.args.fill _ _ (c.ask_call.ensures ∙ ap (λ (l : Lengths). ask_call c.args.frame.grid.cols c.args.frame.grid.rows l c.args.call c.args.quantiser (length c.args.bits.now) c.args.place c.saturating_sub-free.result) c.of-l.ensures) c.saturating_sub-free.ensures) ∙ c.in_ok-ask_call.was
 
 pub returns : goal.returns
 returns c =
@@ -28,4 +31,4 @@ returns c =
 
 pub returns-in_err-ask_call : goal.returns-in_err-ask_call
 returns-in_err-ask_call c =
-    rw (handed _ _ c.from_residual.ensures) (laws.not-asked (S (goal.at.returns-in_err-ask_call c).Start) c.args.call c.args.bits.now c.args.place c.args.transcript.now c.args.fill _ _ (laws.asked_by (S (goal.at.returns-in_err-ask_call c).Start) c.args.call c.args.bits.now c.args.place c.args.transcript.now c.args.fill _ _ c.ask_call.ensures c.saturating_sub-free.ensures) c.in_err-ask_call.was)
+    rw (handed _ _ c.from_residual.ensures) (laws.not-asked (S (goal.at.returns-in_err-ask_call c).Start) c.args.call c.args.bits.now c.args.place c.args.transcript.now c.args.fill _ _ (laws.asked_by (S (goal.at.returns-in_err-ask_call c).Start) c.args.call c.args.bits.now c.args.place c.args.transcript.now c.args.fill _ _ (c.ask_call.ensures ∙ ap (λ (l : Lengths). ask_call c.args.frame.grid.cols c.args.frame.grid.rows l c.args.call c.args.quantiser (length c.args.bits.now) c.args.place c.saturating_sub-free.result) c.of-l.ensures) c.saturating_sub-free.ensures) c.in_err-ask_call.was)

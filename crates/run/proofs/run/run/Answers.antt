@@ -4,9 +4,12 @@ use borrow.Author.Rules.{rules}
 use Rattle.std.specs.Prelude.{Err}
 use Rattle.picture.specs.InnerLent.{Slices}
 use Rattle.picture.proofs.Lent.{slices-are, same-slices}
+use lib.ListN.{length}
+use Rattle.state.specs.Questions.{ask_run}
+use Rattle.state.specs.declared.Lengths.{Lengths}
 use Rattle.state.specs.State.{State}
 use Rattle.macroblock.specs.Entry.{state_of, state_now}
-use Rattle.run.specs.Left.{Left, run_left}
+use Rattle.run.specs.Left.{Left, report_of, run_left}
 use Rattle.run.specs.declared.Report.{Report}
 use Rattle.run.proofs.Whole.{listed, refused-list, no_call, some-calls}
 use Rattle.run.proofs.run.run.Goals.{Start}
@@ -21,7 +24,7 @@ nothing s r = run_left r (state_now s.args.frame r.quantiser s.args.ry s.args.rc
 
 pub returns-then-n-eq0 : goal.returns-then-n-eq0
 returns-then-n-eq0 c =
-    ap (nothing (goal.at.returns-then-n-eq0 c).Start) c.run_nothing.ensures
+    ap (nothing (goal.at.returns-then-n-eq0 c).Start) (c.run_nothing.ensures ∙ ap (λ (l : Lengths). report_of 0 0 c.args.place c.args.quantiser 0 (ask_run c.args.frame.grid.cols c.args.frame.grid.rows l c.args.quantiser (length c.args.bits.now) c.args.place)) c.of-l.ensures)
     ∙ no_call (S (goal.at.returns-then-n-eq0 c).Start) c.args.list.now c.args.bits.now c.args.place c.args.transcript.now (sym c.in-Ok.is ∙ c.check_calls.ensures) c.if-n-eq0.true
 
 pub run_calls-requires : goal.run_calls-requires
