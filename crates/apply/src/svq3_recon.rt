@@ -41,7 +41,7 @@ pub fn add_luma(pic: &mut [u8], residual: Residual)
     }
 }
 
-// The four blocks of a chroma plane, Cb 0 or Cr 1 (a number: places of levels are reckoned with it), in a square. Without AC levels each has its DC alone.
+// The four blocks of a chroma plane, Cb 0 or Cr 1 (a number: places of levels are reckoned with it), in a square. Without AC levels, where `ac` is false, each has its DC alone: two calls, of which a caller knows one by the class, and what stands before them is the same.
 fn add_square(pic: &mut [u8], s: Square, levels: &[i32; 392], plane: usize, q: Quantiser, ac: bool)
     requires inside { SquareIn s 8 (length pic.old) × (plane < 2) }
     requires pos_value { ac ≡ false → (n : ℕ) → n < 64 → get_or levels.now (264 + 64 * plane + n) (pos 0) ≡ pos 0 }
