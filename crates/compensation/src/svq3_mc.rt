@@ -67,7 +67,7 @@ pub fn taps_of(w: usize, h: usize, size: Size, x: i32, y: i32, vx: i32, vy: i32)
     };
     let ox = (x as i64) + sx.whole;
     let oy = (y as i64) + sy.whole;
-    let e = extra_of(phases);
+    let e = extra_of(phases.px, phases.py);
     let inside = lies_in(ox, w + e, size.width) & lies_in(oy, h + e, size.height);
     Taps {
         phases,
