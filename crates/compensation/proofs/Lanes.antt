@@ -149,20 +149,26 @@ unfolding rows
 rows_on l s x y v w r zero = rw (add-zero r)
 rows_on l s x y v w r (suc t) = rw (add-suc r t) (rw (add_assoc y r t) (ap (λ (m : List ℕ). row m ((y + (r + t)) * s + x) (v (r + t)) w) (rows_on l s x y v w r t)))
 
--- a turn of a loop that stores a tile
-pub tile-more : {l l' : List ℕ} (l₀ t : List ℕ) (s x y : ℕ) (m : Mix) (src : List ℕ) (from at w h i : ℕ)
-    → l ≡ rows l₀ s x y (mixed_block m src from) w (i * h) → Holds t at w h (mixed_block m src (from + i * h * m.stride))
-    → l' ≡ painted s x (y + i * h) w h (tiled t at w) l → Inside s x (y + i * h) w h (length l)
-    → l' ≡ rows l₀ s x y (mixed_block m src from) w ((i + 1) * h)
+-- a tile below r rows
+pub tile-more : {l l' : List ℕ} (l₀ t : List ℕ) (s x y : ℕ) (m : Mix) (src : List ℕ) (from at w h r : ℕ)
+    → l ≡ rows l₀ s x y (mixed_block m src from) w r → Holds t at w h (mixed_block m src (from + r * m.stride))
+    → l' ≡ painted s x (y + r) w h (tiled t at w) l → Inside s x (y + r) w h (length l)
+    → l' ≡ rows l₀ s x y (mixed_block m src from) w (r + h)
 unfolding Holds mixed_block
-tile-more {l} l₀ t s x y m src from at w h i e holds stored inside =
-    let r = i * h in
+tile-more {l} l₀ t s x y m src from at w h r e holds stored inside =
     let v = mixed_block m src from in
     let on : (k : ℕ) → from + r * m.stride + k * m.stride ≡ from + (r + k) * m.stride = λ k. omega (arith, add-mul r k m.stride) in
-    let next : r + h ≡ (i + 1) * h = omega (arith, add-mul i 1 h) in
     stored
     ∙ painted-values s x (y + r) w h (tiled t at w) (λ k. v (r + k)) l (λ k c lk lc. holds k c lk lc ∙ ap (λ (j : ℕ). mixed_row m src j c) (on k))
     ∙ sym (rows-painted 0 l (λ k. v (r + k)) inside)
     ∙ ap (λ (k : List ℕ). rows k s x (y + r) (λ j. v (r + j)) w h) e
     ∙ rows_on l₀ s x y v w r h
-    ∙ ap (λ n. rows l₀ s x y v w n) next
+
+-- turn i of a loop that stores tiles of h rows
+pub turn-more : {l l' : List ℕ} (l₀ t : List ℕ) (s x y : ℕ) (m : Mix) (src : List ℕ) (from at w h i : ℕ)
+    → l ≡ rows l₀ s x y (mixed_block m src from) w (i * h) → Holds t at w h (mixed_block m src (from + i * h * m.stride))
+    → l' ≡ painted s x (y + i * h) w h (tiled t at w) l → Inside s x (y + i * h) w h (length l)
+    → l' ≡ rows l₀ s x y (mixed_block m src from) w ((i + 1) * h)
+turn-more l₀ t s x y m src from at w h i e holds stored inside =
+    let next : i * h + h ≡ (i + 1) * h = omega (arith, add-mul i 1 h) in
+    tile-more l₀ t s x y m src from at w h (i * h) e holds stored inside ∙ ap (λ n. rows l₀ s x y (mixed_block m src from) w n) next

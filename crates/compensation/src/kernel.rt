@@ -122,10 +122,10 @@ pub fn mix_of(p: Phases, stride: usize) -> Mix
 }
 
 // How many taps past its samples a block reads, each way.
-pub fn extra_of(p: Phases) -> usize
-    ensures { (result ≡ extra p.px p.py) × (result ≤ 1) }
+pub fn extra_of(px: u32, py: u32) -> usize
+    ensures { (result ≡ extra px py) × (result ≤ 1) }
 {
-    if p.px == 0 && p.py == 0 { 0 } else { 1 }
+    if px == 0 && py == 0 { 0 } else { 1 }
 }
 
 // Whole samples: rows that are copied. `Span` stands beside `BlockIn`, as in `svq3_mc`. The width is a number of its own, so that it can be a literal; not a const parameter, for widths of no partition share the loop.

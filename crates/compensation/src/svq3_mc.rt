@@ -24,7 +24,7 @@ pub struct MvComponentSplit {
 }
 
 // Rounded down by one unsigned division: 6 · 357,913,942 is more than any vector is below 0.
-// `div_euclid` and `rem_euclid` branch on the sign, which cannot be foreseen: blocks with drawn vectors took 8 % longer (86 ns, not 80).
+// The plain form would be `div_euclid` and `rem_euclid`: the check does not find their proof alone (tried), and they branch on the sign, which cannot be foreseen. Blocks with drawn vectors took 8 % longer (86 ns, not 80).
 pub fn split_mv_component(v: i32) -> MvComponentSplit
     ensures { (result.whole ≡ floor_z v 6) × (result.phase ≡ mod_z v 6) }
 {
@@ -67,7 +67,7 @@ pub fn taps_of(w: usize, h: usize, size: Size, x: i32, y: i32, vx: i32, vy: i32)
     };
     let ox = (x as i64) + sx.whole;
     let oy = (y as i64) + sy.whole;
-    let e = extra_of(phases);
+    let e = extra_of(phases.px, phases.py);
     let inside = lies_in(ox, w + e, size.width) & lies_in(oy, h + e, size.height);
     Taps {
         phases,

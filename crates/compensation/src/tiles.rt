@@ -203,7 +203,7 @@ pub fn interpolate(dst: &mut [u8], src: &[u8], b: Block, stride: usize, from: us
     requires { Span b.w b.h × BlockIn b (length dst.old) × (from + (b.h - 1 + extra p.px p.py) * stride + b.w + extra p.px p.py ≤ length src.now) }
     ensures { dst.new ≡ block_painted b (four_block (formula p.px p.py) src.now stride from) dst.old }
 {
-    if extra_of(p) == 0 {
+    if extra_of(p.px, p.py) == 0 {
         copy_by_width(dst, src, b, stride, from);
     } else {
         let mix = mix_of(p, stride);
@@ -226,7 +226,7 @@ pub fn interpolate_pair(
     ensures cb_after { cb.new ≡ block_painted b (four_block (formula p.px p.py) rcb.now b.stride from) cb.old }
     ensures cr_after { cr.new ≡ block_painted b (four_block (formula p.px p.py) rcr.now b.stride from) cr.old }
 {
-    if extra_of(p) == 0 {
+    if extra_of(p.px, p.py) == 0 {
         copy_by_width(cb, rcb, b, b.stride, from);
         copy_by_width(cr, rcr, b, b.stride, from);
     } else {

@@ -62,7 +62,7 @@ fn fill_run(window: &mut [u8], at: usize, sample: u8)
     window[at..at + 17].fill(sample);
 }
 
-// By `copy_from_slice`, 16 × 16 whole samples across an edge took 13 % more instructions.
+// The plain form would be one `copy_from_slice`: the check does not find its proof alone (tried), while `store_row` promises a row as this does. 16 × 16 whole samples across an edge took 13 % more instructions with it.
 fn copy_run(window: &mut [u8], at: usize, plane: &[u8], from: usize)
     requires { (at + 17 ≤ length window.old) × (from + 17 ≤ length plane.now) }
     ensures { window.new ≡ row window.old at (run plane.now from) 17 }

@@ -11,9 +11,11 @@ use lib.Signed.{mag}
 use lib.ListN.{get_or}
 use Rattle.ints.specs.Z.{when◌then◌else◌, clamp_z, sat_z, clip1_z}
 use mir.Syntax.{w8}
+use mir.Val.{SFits}
 use Rattle.transform.specs.declared.svq3_dequant.TheConstants.{MATRIX}
 use Rattle.ints.proofs.Fits.{read, within-clamp, within-lit, clamp-ind}
 use Rattle.std.proofs.lemmas.Int.{ints}
+use Rattle.std.proofs.Common.{rules}
 use Rattle.ints.proofs.Linear.{clip1-z, mag-z}
 use Rattle.picture.specs.Picture.{seen}
 use Rattle.picture.specs.InnerRows.{row, rows}
@@ -21,7 +23,7 @@ use Rattle.picture.proofs.Laws.{more, row-values, rows_more, rows_other, painted
 use Rattle.transform.specs.Residual.{placed, listed, scaled, sum_of, weighed, rows_of, columns_of, rounded, residual}
 use Rattle.transform.specs.InnerResidual.{no_levels}
 use Rattle.transform.specs.Added.{reconstructed, added}
-use Rattle.transform.specs.InnerArrays.{turned, dot, short, shortened, finished, Short, reconstructed_at}
+use Rattle.transform.specs.InnerArrays.{turned, short, shortened, finished, Short, reconstructed_at}
 
 -- a number below 4, by cases
 pub below-4 : (P : ℕ → Type 0) → P 0 → P 1 → P 2 → P 3 → (n : ℕ) → n < 4 → P n
@@ -41,10 +43,17 @@ minus n (negsuc a) = omega (arith, ints)
 abbrev pub coefficient : ℕ → ℕ → ℤ
 coefficient k j = read w8 (get_or (get_or MATRIX k []) j (pos 0))
 
-pub weighed-dot : (k : ℕ) → k < 4 → (a b c d : ℤ) → dot (coefficient k 0) (coefficient k 1) (coefficient k 2) (coefficient k 3) a b c d ≡ weighed k a b c d
-unfolding dot weighed sum_of
-weighed-dot k h a b c d =
-    below-4 (λ k. dot (coefficient k 0) (coefficient k 1) (coefficient k 2) (coefficient k 3) a b c d ≡ weighed k a b c d)
+pub coefficient-fits : (k j : ℕ) → SFits w8 (coefficient k j)
+coefficient-fits k j = search rules
+
+-- four numbers by row k of the matrix
+abbrev pub sum_by : ℕ → ℤ → ℤ → ℤ → ℤ → ℤ
+sum_by k a b c d = coefficient k 0 *ℤ a +ℤ coefficient k 1 *ℤ b +ℤ coefficient k 2 *ℤ c +ℤ coefficient k 3 *ℤ d
+
+pub weighed-sum : (k : ℕ) → k < 4 → (a b c d : ℤ) → sat_z (sum_by k a b c d) ≡ weighed k a b c d
+unfolding weighed sum_of
+weighed-sum k h a b c d =
+    below-4 (λ k. sat_z (sum_by k a b c d) ≡ weighed k a b c d)
     refl
     (rw (minus 12 c, minus 16 d) refl)
     (rw (minus 6 b, minus 12 c) refl)

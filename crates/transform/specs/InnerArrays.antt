@@ -1,8 +1,8 @@
 -- How the code holds blocks: contracts of inner functions.
 -- Assumes nothing.
-use Rattle.std.specs.Prelude.{List, ℕ, ◌+◌, ◌*◌, ◌<◌, ℤ, pos, negsuc, ◌+ℤ◌, ◌*ℤ◌, get_or}
+use Rattle.std.specs.Prelude.{List, ℕ, ◌+◌, ◌*◌, ◌<◌, ℤ, pos, negsuc, ◌+ℤ◌, get_or}
 use Rattle.std.specs.Int.Signed.{mag}
-use Rattle.ints.specs.Z.{clamp_z, sat_z, clip1_z}
+use Rattle.ints.specs.Z.{clamp_z, clip1_z}
 use Rattle.transform.specs.Residual.{weighed, rounded}
 
 -- columns for rows
@@ -16,10 +16,6 @@ short z = clamp_z (negsuc 4095) (pos 4095) z
 -- of each residual
 unfoldable pub shortened : (ℕ → ℕ → ℤ) → ℕ → ℕ → ℤ
 shortened x r c = short (x r c)
-
--- four numbers by four coefficients, saturated
-unfoldable pub dot : ℤ → ℤ → ℤ → ℤ → ℤ → ℤ → ℤ → ℤ → ℤ
-dot p q r s a b c d = sat_z (p *ℤ a +ℤ q *ℤ b +ℤ r *ℤ c +ℤ s *ℤ d)
 
 -- the four numbers of row i by row k of the matrix
 unfoldable pub weighed_row : ℕ → List ℤ → ℕ → ℤ

@@ -43,11 +43,11 @@ fn all_within(l: &[i32], most: u32) -> bool
 
 // Whether each of 64 levels, times the entry, and each DC lie within ±800,000.
 // At least 64 levels, or 16, here and in the other files: an array of so many would ask more of callers, who lend all that follow a place.
-pub fn all_small(levels: &[i32], scale: Scale, dc: &[i32; 4]) -> bool
-    requires { (64 ≤ length levels.now) × (0 < scale.by) }
-    ensures { result ≡ (all_within 800000 dc.now && all_within (800000 / scale.by) (take 64 levels.now)) }
+pub fn all_small(levels: &[i32], scale: u32, dc: &[i32; 4]) -> bool
+    requires { (64 ≤ length levels.now) × (0 < scale) }
+    ensures { result ≡ (all_within 800000 dc.now && all_within (800000 / scale) (take 64 levels.now)) }
 {
-    all_within(dc, 800000) & all_within(&levels[..64], 800000 / scale.by)
+    all_within(dc, 800000) & all_within(&levels[..64], 800000 / scale)
 }
 
 // Level n times the entry.

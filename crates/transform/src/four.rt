@@ -44,7 +44,7 @@ fn add_four(plane: &mut [u8], s: Square, levels: &[i32], scale: Scale, dc: &[i32
     requires levels { (64 ≤ length levels.now) × (0 < scale.by) }
     ensures { plane.new ≡ four_added plane.old s levels.now scale.by dc.now }
 {
-    if exact::all_small(levels, scale, dc) {
+    if exact::all_small(levels, scale.by, dc) {
         add_exact(plane, s, levels, scale, dc);
     } else {
         add_each(plane, s, levels, scale, dc);

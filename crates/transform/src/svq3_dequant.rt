@@ -4,7 +4,7 @@ ghost use Rattle.ints.specs.Z.{sat_z};
 ghost use Rattle.transform.specs.Tables.{dequant_coeff, chroma_quantiser_index, chroma_coeff};
 ghost use Rattle.transform.specs.Residual.{placed, listed, scaled, rows_of, rounded, residual};
 ghost use Rattle.transform.specs.ChromaDc.{sat_half, secondary, chroma_dc};
-ghost use Rattle.transform.specs.InnerArrays.{turned, dot, weighed_row, short, shortened, finished};
+ghost use Rattle.transform.specs.InnerArrays.{turned, weighed_row, short, shortened, finished};
 
 use crate::{Quantiser, Scale};
 use std::array;
@@ -67,34 +67,17 @@ fn scale_luma_block_by_quantiser(levels: &[i32], scale: Scale) -> [i32; 16]
     array::from_fn(|n| scale_level(levels[n], scale))
 }
 
-// Four numbers by four coefficients. Any coefficients of 8 bits: that each step fits does not depend on the matrix.
-// No arrays of four: the contract would name each number by its place in one of them.
-fn apply_luma_transform_row(p: i8, q: i8, r: i8, s: i8, a: i32, b: i32, c: i32, d: i32) -> i32
-    ensures { result ≡ dot p q r s a b c d }
-{
-    ints::sat_i32(
-        (p as i64) * (a as i64)
-            + (q as i64) * (b as i64)
-            + (r as i64) * (c as i64)
-            + (s as i64) * (d as i64),
-    )
-}
-
-// Row i of a block by row k of the matrix.
+// Row i of a block by row k of the matrix, whose coefficients have 8 bits: so each step fits.
 fn weigh_row(k: usize, x: &[i32; 16], i: usize) -> i32
     requires { (k < 4) × (i < 4) }
     ensures { result ≡ weighed_row k x.now i }
 {
     let [p, q, r, s] = MATRIX[k];
-    apply_luma_transform_row(
-        p,
-        q,
-        r,
-        s,
-        x[4 * i],
-        x[4 * i + 1],
-        x[4 * i + 2],
-        x[4 * i + 3],
+    ints::sat_i32(
+        (p as i64) * (x[4 * i] as i64)
+            + (q as i64) * (x[4 * i + 1] as i64)
+            + (r as i64) * (x[4 * i + 2] as i64)
+            + (s as i64) * (x[4 * i + 3] as i64),
     )
 }
 

@@ -7,7 +7,7 @@ use lib.ListN.{length}
 use Rattle.picture.specs.Painted.{Inside}
 use Rattle.picture.specs.InnerRows.{rows}
 use Rattle.picture.proofs.Laws.{rows-painted}
-use Rattle.compensation.proofs.Lanes.{roomier, two, tile-turn, turns-all, tile-more}
+use Rattle.compensation.proofs.Lanes.{roomier, two, tile-turn, turns-all, turn-more}
 use Rattle.compensation.proofs.tiles.mix_tile_pairs.Given.{Over}
 use Rattle.compensation.proofs.tiles.mix_tile_pairs.Goals.{In-loop-i}
 use Rattle.compensation.proofs.tiles.mix_tile_pairs.Goals as goal
@@ -48,8 +48,8 @@ loop-i-preserved g c =
     let t = c.mix_tile_pair-t in (
       omega (arith, l.invariant.0, c.store_lanes.auto.dst),
       omega (arith, l.invariant.1, c.store_lanes-in-loop-i.auto.dst),
-      tile-more a.cb.now t.result a.b.stride a.b.x a.b.y a.mix a.rcb.now a.from 0 w h l.i l.invariant.2 t.ensures.0 c.store_lanes.ensures (cb-lies g (goal.at.loop-i-preserved g c).In-loop-i).2,
-      tile-more a.cr.now t.result a.b.stride a.b.x a.b.y a.mix a.rcr.now a.from (w * h) w h l.i l.invariant.3 t.ensures.1 c.store_lanes-in-loop-i.ensures (cr-lies g (goal.at.loop-i-preserved g c).In-loop-i).2,
+      turn-more a.cb.now t.result a.b.stride a.b.x a.b.y a.mix a.rcb.now a.from 0 w h l.i l.invariant.2 t.ensures.0 c.store_lanes.ensures (cb-lies g (goal.at.loop-i-preserved g c).In-loop-i).2,
+      turn-more a.cr.now t.result a.b.stride a.b.x a.b.y a.mix a.rcr.now a.from (w * h) w h l.i l.invariant.3 t.ensures.1 c.store_lanes-in-loop-i.ensures (cr-lies g (goal.at.loop-i-preserved g c).In-loop-i).2,
     )
 
 pub returns : goal.returns

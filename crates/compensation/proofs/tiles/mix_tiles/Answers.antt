@@ -7,7 +7,7 @@ use lib.ListN.{length}
 use Rattle.picture.specs.Painted.{Inside}
 use Rattle.picture.specs.InnerRows.{rows}
 use Rattle.picture.proofs.Laws.{rows-painted}
-use Rattle.compensation.proofs.Lanes.{tile-turn, turns-all, tile-more}
+use Rattle.compensation.proofs.Lanes.{tile-turn, turns-all, turn-more}
 use Rattle.compensation.proofs.tiles.mix_tiles.Given.{Over}
 use Rattle.compensation.proofs.tiles.mix_tiles.Goals.{In-loop-i}
 use Rattle.compensation.proofs.tiles.mix_tiles.Goals as goal
@@ -37,7 +37,7 @@ loop-i-preserved g c =
     let l = c.loop-i in
     let t = c.mix_tile-t in (
       omega (arith, c.store_lanes.auto.dst),
-      tile-more a.dst.now t.result a.b.stride a.b.x a.b.y a.mix a.src.now a.from 0 g.row.W g.row.H l.i l.invariant.1 t.ensures c.store_lanes.ensures (lies g (goal.at.loop-i-preserved g c).In-loop-i).2,
+      turn-more a.dst.now t.result a.b.stride a.b.x a.b.y a.mix a.src.now a.from 0 g.row.W g.row.H l.i l.invariant.1 t.ensures c.store_lanes.ensures (lies g (goal.at.loop-i-preserved g c).In-loop-i).2,
     )
 
 pub returns : goal.returns
