@@ -77,6 +77,7 @@ pub fn u64_at(b: &[u8], at: usize) -> u64
 }
 
 // As many numbers of four bytes as there are whole ones, and room for.
+// What they are is not promised: a loop over an adapter of `iter_mut`, as `zip`, has no name for the elements that it wrote, and no invariant can say it. The length stays by the type.
 pub fn take_numbers(to: &mut [i32], bytes: &[u8]) {
     for (number, four) in to.iter_mut().zip(bytes.chunks_exact(4)) {
         *number = i32_at(four, 0);
