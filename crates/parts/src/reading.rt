@@ -67,15 +67,17 @@ fn partitions_agree(expected: Expected, values: &[i32], at: usize, mode: u32) ->
     requires { mode ≤ 7 }
 {
     let n = num_motion_vectors(mode);
+    if values.len() != 3 + 2 * n {
+        return false;
+    }
     let first = Partition::of_mode(mode, 0);
     let mut same = expected.accepts(at)
-        & (values.len() == 3 + 2 * n)
         & value_is(values, 0, n)
         & value_is(values, 1, 4 * first.wide)
         & value_is(values, 2, 4 * first.high);
-    for i in 0..n {
+    for (i, place) in values[3..].chunks_exact(2).enumerate() {
         let part = Partition::of_mode(mode, i);
-        same &= value_is(values, 3 + 2 * i, 4 * part.x) & value_is(values, 4 + 2 * i, 4 * part.y);
+        same &= value_is(place, 0, 4 * part.x) & value_is(place, 1, 4 * part.y);
     }
     same
 }
