@@ -70,6 +70,7 @@ impl Film {
 pub struct Head(pub [u8; 80]);
 
 impl Head {
+    // Delta is the third flag here; `desk` and `printing` are given it as a number of its own, and read the flags each by what their numbers may be.
     fn frame(&self) -> Frame {
         let flags = self.0[1];
         Frame {
