@@ -12,12 +12,13 @@ use transcript::parse::{RecordStart, parse_place};
 
 // A refusal leaves the cursor where the call found it.
 fn answered(answer: Result<MbReport, Refusal>, cursor: Cursor, film: &Film) -> bool {
+    let Cursor { place, quantiser } = film.before;
+    let told = cursor_by(place, quantiser, answer);
     match answer {
         Ok(report) => {
             film.refusal.is_none()
-                & (report.place == film.after.place)
-                & (report.quantiser == film.after.quantiser)
                 & (report.fill == film.used.saturating_add(film.written))
+                & (told == film.after)
                 & (cursor == film.after)
         }
         Err(why) => film.refuses(why) & (cursor == film.before),

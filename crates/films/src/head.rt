@@ -18,8 +18,8 @@ pub struct Ran {
 pub enum Work {
     Macroblock(Call),
     Run(Ran),
-    // the number with which the check of the transcript alone refuses it, or 0
-    Replay { check: u32 },
+    // the refusal of the check of the transcript alone
+    Replay { check: Option<Told> },
 }
 
 // What a replay answers; of a run, the replay of its transcript. No refusal of a replay has a detail.
@@ -70,6 +70,7 @@ impl Film {
 pub struct Head(pub [u8; 80]);
 
 impl Head {
+    // Delta is the third flag here; `desk` and `printing` are given it as a number of its own, and read the flags each by what their numbers may be.
     fn frame(&self) -> Frame {
         let flags = self.0[1];
         Frame {
@@ -171,7 +172,7 @@ impl Head {
                 consumed: u32_at(&self.0, 16) as usize,
             }),
             5 => Work::Replay {
-                check: u32::from(self.0[3]),
+                check: Told::of(u32::from(self.0[3]), 0),
             },
             _ => return None,
         };

@@ -18,8 +18,7 @@ fn stopped(stop: Result<(), Refusal>, film: &Film) -> bool {
 fn reported(report: Report, cursor: Cursor, film: &Film, ran: Ran) -> bool {
     (report.accepted == ran.accepted)
         & (report.consumed == ran.consumed)
-        & (report.place == film.after.place)
-        & (report.quantiser == film.after.quantiser)
+        & (report.cursor() == film.after)
         & (report.fill == film.written)
         & (cursor == film.after)
         & stopped(report.stop, film)

@@ -44,12 +44,12 @@ pub fn agrees(
     answered(got, expected)
 }
 
-// The check of a transcript alone, with the number of its refusal, or 0.
-pub fn check_agrees(transcript: &[u8; 8192], film: &Film, number: u32) -> bool {
+// The check of a transcript alone, with its refusal.
+pub fn check_agrees(transcript: &[u8; 8192], film: &Film, refusal: Option<Told>) -> bool {
     let grid = film.frame.grid;
     let written = &transcript[..film.written.min(8192)];
     match check_transcript(written, grid.cols, grid.rows) {
-        Ok(n) => (number == 0) & (n == film.replayed.records),
-        Err(why) => refusal::number_of(why) == number,
+        Ok(n) => refusal.is_none() & (n == film.replayed.records),
+        Err(why) => refusal == Some(Told::from(why)),
     }
 }

@@ -15,6 +15,7 @@ const SQUARE: Square = Square {
 };
 
 // A block of 4 × 4 samples, into a quadrant of 8 × 8 from `at` on.
+// By r and not by the block's chunks: tried, and the proof did not close, since nothing bounds a chunk's number there and `at + 8 * r` must fit.
 fn put_block(quadrant: &mut [u8; 64], at: usize, block: &[u8])
     requires { (at ≤ 36) × (16 ≤ length block.now) }
 {

@@ -12,6 +12,7 @@ use compensation::svq3_mc::{motion_compensate_block, motion_compensate_chroma_bl
 use std::fmt;
 
 // The plane of the blocks that follow: the first `size` samples.
+// A buffer and a length, since there is no heap: the plane outlives the question that gave it, and the next plane is read into the same bytes, which no slice could lend meanwhile.
 #[derive(Drop)]
 struct Plane {
     width: usize,

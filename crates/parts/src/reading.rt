@@ -3,44 +3,29 @@ ghost use Rattle.std.specs.Prelude.{◌≤◌};
 
 use crate::head::{Expected, Reader};
 use bits::Bits;
-use levels::svq3_coeff::ResidualBook;
+use bits::svq3::read_universal_code;
+use bits::svq3_mv::read_signed_code;
+use levels::svq3_cbp::read_cbp_inter;
+use levels::svq3_coeff::{
+    ResidualBook, decode_chroma_dc_2x2, decode_residual_4x4_normal, resolve_level_run,
+};
 use lists::take_numbers;
-use vectors::svq3_mb::{Partition, num_motion_vectors};
+use refusal::Refusal;
+use vectors::svq3_mb::{
+    Partition, num_motion_vectors, precision_number, read_inter_mv_precision_p_frame,
+};
 
-fn code_agrees(expected: Expected, bits: Bits, values: &[i32], at: usize) -> bool {
-    match bits::svq3::read_universal_code(bits, at) {
-        Ok((k, next)) => expected.accepts(next) & (values == [k.cast_signed()].as_slice()),
-        Err(why) => expected.refuses(why),
-    }
-}
-
-fn signed_agrees(expected: Expected, bits: Bits, values: &[i32], at: usize) -> bool {
-    match bits::svq3_mv::read_signed_code(bits, at) {
-        Ok((v, next)) => expected.accepts(next) & (values == [v].as_slice()),
-        Err(why) => expected.refuses(why),
-    }
-}
-
-fn precision_agrees(
+// One number, as C holds it.
+fn number_agrees<T, F: FnOnce(T) -> i32>(
     expected: Expected,
-    bits: Bits,
     values: &[i32],
-    at: usize,
-    halfpel: bool,
-    thirdpel: bool,
-) -> bool {
-    match vectors::svq3_mb::read_inter_mv_precision_p_frame(bits, at, thirdpel, halfpel) {
-        Ok((p, next)) => {
-            let number = vectors::svq3_mb::precision_number(p).cast_signed();
-            expected.accepts(next) & (values == [number].as_slice())
-        }
-        Err(why) => expected.refuses(why),
-    }
-}
-
-fn pattern_agrees(expected: Expected, bits: Bits, values: &[i32], at: usize) -> bool {
-    match levels::svq3_cbp::read_cbp_inter(bits, at) {
-        Ok((v, next)) => expected.accepts(next) & (values == [i32::from(v)].as_slice()),
+    read: Result<(T, usize), Refusal>,
+    number: F,
+) -> bool
+    requires { F.IsAlwaysCallable number }
+{
+    match read {
+        Ok((value, next)) => expected.accepts(next) & (values == [number(value)].as_slice()),
         Err(why) => expected.refuses(why),
     }
 }
@@ -48,27 +33,22 @@ fn pattern_agrees(expected: Expected, bits: Bits, values: &[i32], at: usize) -> 
 // The place is the code.
 fn level_agrees(expected: Expected, values: &[i32], at: usize, book: ResidualBook) -> bool {
     let code = (at % 4294967296) as u32;
-    match levels::svq3_coeff::resolve_level_run(book, code) {
+    match resolve_level_run(book, code) {
         Some((level, run)) => expected.accepts(at)
             & (values == [level, run.cast_signed()].as_slice()),
         None => expected.accepts(at) & values.is_empty(),
     }
 }
 
-fn list_agrees(expected: Expected, bits: Bits, values: &[i32], at: usize, start: u32) -> bool
-    requires { start ≤ 1 }
-{
-    let mut levels = [0i32; 16];
-    match levels::svq3_coeff::decode_residual_4x4_normal(&mut levels, 0, bits, at, start) {
-        Ok(next) => expected.accepts(next) & (values == levels.as_slice()),
-        Err(why) => expected.refuses(why),
-    }
-}
-
-fn dc_agrees(expected: Expected, bits: Bits, values: &[i32], at: usize) -> bool {
-    let mut levels = [0i32; 4];
-    match levels::svq3_coeff::decode_chroma_dc_2x2(&mut levels, 0, bits, at) {
-        Ok(next) => expected.accepts(next) & (values == levels.as_slice()),
+// A list, left in `levels`.
+fn list_agrees(
+    expected: Expected,
+    values: &[i32],
+    read: Result<usize, Refusal>,
+    levels: &[i32],
+) -> bool {
+    match read {
+        Ok(next) => expected.accepts(next) & (values == levels),
         Err(why) => expected.refuses(why),
     }
 }
@@ -87,15 +67,17 @@ fn partitions_agree(expected: Expected, values: &[i32], at: usize, mode: u32) ->
     requires { mode ≤ 7 }
 {
     let n = num_motion_vectors(mode);
+    if values.len() != 3 + 2 * n {
+        return false;
+    }
     let first = Partition::of_mode(mode, 0);
     let mut same = expected.accepts(at)
-        & (values.len() == 3 + 2 * n)
         & value_is(values, 0, n)
         & value_is(values, 1, 4 * first.wide)
         & value_is(values, 2, 4 * first.high);
-    for i in 0..n {
+    for (i, place) in values[3..].chunks_exact(2).enumerate() {
         let part = Partition::of_mode(mode, i);
-        same &= value_is(values, 3 + 2 * i, 4 * part.x) & value_is(values, 4 + 2 * i, 4 * part.y);
+        same &= value_is(place, 0, 4 * part.x) & value_is(place, 1, 4 * part.y);
     }
     same
 }
@@ -108,15 +90,30 @@ pub fn agrees(reader: Reader, at: usize, expected: Expected, bits: Bits, answere
         return false;
     };
     match reader {
-        Reader::UniversalCode => code_agrees(expected, bits, values, at),
-        Reader::SignedCode => signed_agrees(expected, bits, values, at),
-        Reader::Precision { halfpel, thirdpel } => {
-            precision_agrees(expected, bits, values, at, halfpel, thirdpel)
+        Reader::UniversalCode => {
+            let read = read_universal_code(bits, at);
+            number_agrees(expected, values, read, |k| k.cast_signed())
         }
-        Reader::Pattern => pattern_agrees(expected, bits, values, at),
+        Reader::SignedCode => number_agrees(expected, values, read_signed_code(bits, at), |v| v),
+        Reader::Precision { halfpel, thirdpel } => {
+            let read = read_inter_mv_precision_p_frame(bits, at, thirdpel, halfpel);
+            let number = |p| precision_number(p).cast_signed();
+            number_agrees(expected, values, read, number)
+        }
+        Reader::Pattern => {
+            number_agrees(expected, values, read_cbp_inter(bits, at), |v| i32::from(v))
+        }
         Reader::LevelRun(book) => level_agrees(expected, values, at, book),
-        Reader::ResidualList(start) => list_agrees(expected, bits, values, at, start % 2),
-        Reader::ChromaDc => dc_agrees(expected, bits, values, at),
+        Reader::ResidualList(start) => {
+            let mut levels = [0i32; 16];
+            let read = decode_residual_4x4_normal(&mut levels, 0, bits, at, start % 2);
+            list_agrees(expected, values, read, &levels)
+        }
+        Reader::ChromaDc => {
+            let mut levels = [0i32; 4];
+            let read = decode_chroma_dc_2x2(&mut levels, 0, bits, at);
+            list_agrees(expected, values, read, &levels)
+        }
         Reader::Partitions(mode) => partitions_agree(expected, values, at, mode % 8),
     }
 }

@@ -66,7 +66,7 @@ pub fn read_list(input: &[u8], at: usize, count: u32) -> Result<usize, Refusal>
     Ok(p)
 }
 
-// Flags are 1 half + 2 third.
+// Flags are 1 half + 2 third, at most 3, and delta is 0 or 1, by the ranges that were read. `desk` has its own, where a number has no range, and `films`, where one byte holds all three.
 impl From<Header> for Frame {
     ghost from_gives = { λ h frame. frame ≡ frame_of h };
 
