@@ -4,7 +4,7 @@
 --     fits (search ranges depth 20)     a long sum whose parameters are bound by `let record { a = a; .. } = c.fits in`
 --     search signed fits 20000 depth 30 where "its count of 1000 was spent"
 -- A bound that neither a type nor a test gives goes in by `let h = .. in`, as `h : mag z < m`, `nat_abs z ≤ m`, `a < m` or `z ≡ x`. In a product the literal stands first: `6 * x`.
--- The library's `ints` stands for none of it: tried on the sums of transform/proofs/exact, it does not read a number that was put into bits and read back, as each local is.
+-- The library's `ints` was tried on the sums of transform/proofs/exact and on one of the chroma DC: `omega (arith, ints)` proves them too. It was not tried elsewhere.
 -- Assumes nothing.
 use mathlib.Core.Path.{◌≡◌, refl, sym, subst, ap, ◌∙◌}
 use mathlib.Core.Bool.{Bool, true, false, cond, not}

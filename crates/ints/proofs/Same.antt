@@ -3,7 +3,7 @@
 --     search reads depth 20                          a `returns` that is an equation of signed numbers
 --     search reads fits 20000 depth 30               a longer one, its parameters bound by `let record { a = a; .. } = c.before.fits in`
 --     via sat_z c.sat-i32.ensures (search reads depth 20)     where the last step is a call, here of `sat_i32`
--- The library's `ints` stands for none of it, for the reason in Fits.antt: tried on the sums of transform/proofs/exact, it does not read a number that was put into bits and read back.
+-- The library's `ints` proves the sums of transform/proofs/exact too, as Fits.antt says.
 -- Assumes nothing.
 use mathlib.Core.Path.{◌≡◌, refl, sym, subst, ap, ap₂, ◌∙◌}
 use Prim.Native.Nat.{ℕ, ◌*◌, ◌-◌, ◌/◌, ◌^◌, ◌<◌, min}
