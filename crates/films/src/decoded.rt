@@ -76,13 +76,12 @@ pub fn thin(picture: &mut Picture, transcript: &mut [u8], given: Given, call: Ca
 
 // Column, row and mode of the record are the call's.
 fn placed(transcript: &[u8], film: &Film, call: Call) -> bool {
-    match parse_place(transcript, film.used, film.frame.grid) {
-        Ok((RecordStart::Skip(c, r), _)) => (c == call.column) & (r == call.row) & (call.mode == 0),
-        Ok((RecordStart::Coded(h), _)) => {
-            (h.column == call.column) & (h.row == call.row) & (h.mode == call.mode)
-        }
-        Err(_) => false,
-    }
+    let (column, row, mode) = match parse_place(transcript, film.used, film.frame.grid) {
+        Ok((RecordStart::Skip(column, row), _)) => (column, row, 0),
+        Ok((RecordStart::Coded(h), _)) => (h.column, h.row, h.mode),
+        Err(_) => return false,
+    };
+    call == Call { column, row, mode }
 }
 
 // Whether an accepted macroblock's record is read back to the call and to its end; a refused one has no record.

@@ -10,7 +10,7 @@ ghost use Rattle.state.specs.Questions.{grid_right, planes_right, state_right, r
 use picture::{Grid, Picture, Reference};
 use refusal::Refusal;
 
-#[derive(Clone, Copy)]
+#[derive(Clone, Copy, PartialEq)]
 pub struct Call {
     pub column: u32,
     pub row: u32,
