@@ -15,8 +15,8 @@ use picture::{Cells, Grid};
 // Two arrays: as one of Option<Vector>, loading, prediction and storing took a quarter more instructions.
 #[derive(Clone, Copy)]
 pub struct Neighbours {
-    vectors: [Vector; 30],
-    marks: [u8; 30],
+    pub vectors: [Vector; 30],
+    pub marks: [u8; 30],
     pub ghost vectors_len: { length vectors ≡ 30 },
     pub ghost marks_len: { length marks ≡ 30 },
 }
