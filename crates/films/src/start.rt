@@ -124,8 +124,18 @@ impl State {
         self.put_rows(luma, 16 * cols, 16, &bytes[0..256]);
         self.put_rows(1600 + chroma, 8 * cols, 8, &bytes[256..320]);
         self.put_rows(2000 + chroma, 8 * cols, 8, &bytes[320..384]);
-        self.put_rows(2500 + (4 * y) * (32 * cols) + 32 * x, 32 * cols, 32, &bytes[384..512]);
-        self.put_rows(2400 + (4 * y) * (4 * cols) + 4 * x, 4 * cols, 4, &bytes[512..528]);
+        self.put_rows(
+            2500 + (4 * y) * (32 * cols) + 32 * x,
+            32 * cols,
+            32,
+            &bytes[384..512],
+        );
+        self.put_rows(
+            2400 + (4 * y) * (4 * cols) + 4 * x,
+            4 * cols,
+            4,
+            &bytes[512..528],
+        );
         whole
     }
 }

@@ -64,7 +64,9 @@ impl fmt::Display for Counts {
 
 // Whether the answer is the published one. A question that is not whole, or not known, differs. A plane is taken by a whole head alone.
 fn agrees(head: Head, whole: bool, question: Option<Question>, plane: &mut Plane) -> bool {
-    if let Some(Question::Plane { width, height }) = question && whole {
+    if let Some(Question::Plane { width, height }) = question
+        && whole
+    {
         return plane.take(width, height, head.given());
     }
     let mut given = [0u8; 480];

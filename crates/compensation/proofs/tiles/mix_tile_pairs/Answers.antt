@@ -37,7 +37,7 @@ pub store_lanes-requires : goal.store_lanes-requires
 store_lanes-requires g c = let m = c.requires.tile.0 in (roomier m, rw (zero-add (g.row.W * g.row.H)) (roomier m).room, (cb-lies g (goal.at.store_lanes-requires g c).In-loop-i).2)
 
 pub store_lanes-requires-in-loop-i : goal.store_lanes-requires-in-loop-i
-store_lanes-requires-in-loop-i g c = let m = c.requires.tile.0 in (roomier m, two m, (cr-lies g (goal.at.store_lanes-requires-in-loop-i g c).In-loop-i).2)
+store_lanes-requires-in-loop-i g c = let m = c.requires.tile.0 in (roomier m, omega (arith, two m), (cr-lies g (goal.at.store_lanes-requires-in-loop-i g c).In-loop-i).2)
 
 pub loop-i-preserved : goal.loop-i-preserved
 loop-i-preserved g c =
