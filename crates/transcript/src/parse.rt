@@ -203,6 +203,8 @@ fn parse_residual(
 }
 
 // What follows the mode of a record that is no skip, into arrays of zeros: precision, clipped count, vectors, and the residual.
+// Inlined, as the place of a record is.
+#[inline(always)]
 pub fn parse_motion(
     vectors: &mut [i32; 32],
     levels: &mut [i32; 392],
