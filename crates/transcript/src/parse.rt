@@ -187,6 +187,7 @@ fn parse_items(
 
 // Pattern, quantiser, levels. That they are zeros is a clause here, in parse_motion and in reading: it holds before the call alone, and a
 // type would hold it afterwards too.
+#[inline(always)]
 fn parse_residual(
     levels: &mut [i32; 392],
     bytes: &[u8],
