@@ -14,8 +14,8 @@ use Rattle.refusal.proofs.Parts.{part-length}
 use Rattle.picture.specs.Painted.{Inside, painted}
 use Rattle.picture.specs.InnerRows.{row, rows}
 use Rattle.picture.proofs.Laws.{more, row-length, row-paste, row_same, row_other, row_more, rows-painted, painted-values}
-use Rattle.compensation.specs.InnerKernel.{mixed_taps, mixed_at, mixed_row, mixed_block}
-use Rattle.compensation.specs.InnerLanes.{Tile, lane_of, lane_at, tiled, taken_at, Holds, mixed_lane}
+use Rattle.compensation.specs.InnerKernel.{paired_at, paired_row, paired_block, mixed_row, mixed_block}
+use Rattle.compensation.specs.InnerLanes.{Tile, lane_of, lane_at, tiled, taken_at, Holds, four_lane}
 use Rattle.compensation.specs.declared.mix.Mix.{Mix}
 
 -- ---- sixteen lanes have room for two tiles of eight
@@ -105,22 +105,22 @@ unfolding Holds tiled
 kept t at w h n v f e apart holds r c lr lc =
     rw e (row_other t at v n (0 + (r * w + c)) 0 (λ k lk. let m = tile-lane w h r c lr lc in omega arith) ∙ holds r c lr lc)
 
--- ---- lanes that were mixed
-module _ (m : Mix) (src : List ℕ) (from at w h : ℕ) (room : at + w * h ≤ 16) where
-  pub mixed-tile : {t : List ℕ} (a b c d : List ℕ) → t ≡ row (replicate 16 0) 0 (mixed_lane m a b c d) 16
-      → Holds a at w h (taken_at src m.stride from) → Holds b at w h (taken_at src m.stride (from + m.beside))
-      → Holds c at w h (taken_at src m.stride (from + m.second)) → Holds d at w h (taken_at src m.stride (from + (m.beside + m.second)))
-      → Holds t at w h (mixed_block m src from)
-  unfolding Holds tiled taken_at mixed_block mixed_row mixed_at mixed_lane
+-- ---- lanes that were mixed, by any function of two pairs of taps
+module _ (f : ℕ → ℕ → ℕ → ℕ → ℕ) (beside second : ℕ) (src : List ℕ) (stride from at w h : ℕ) (room : at + w * h ≤ 16) where
+  pub mixed-tile : {t : List ℕ} (a b c d : List ℕ) → t ≡ row (replicate 16 0) 0 (four_lane f a b c d) 16
+      → Holds a at w h (taken_at src stride from) → Holds b at w h (taken_at src stride (from + beside))
+      → Holds c at w h (taken_at src stride (from + second)) → Holds d at w h (taken_at src stride (from + (beside + second)))
+      → Holds t at w h (paired_block f beside second src stride from)
+  unfolding Holds tiled taken_at paired_block paired_row paired_at four_lane
   mixed-tile {t} a b c d e ha hb hc hd r k lr lk =
       let i = at + (r * w + k) in
-      let lane : get_or t i 0 ≡ mixed_lane m a b c d i = rw e (rw zero-add at (row_same (replicate 16 0) 0 (mixed_lane m a b c d) 16 i 0 (omega (arith, tile-lane w h r k lr lk)) (omega arith))) in
-      let on : (n : ℕ) → get_or src (from + n + r * m.stride + k) 0 ≡ get_or src (from + r * m.stride + k + n) 0 = λ n. let q : from + n + r * m.stride + k ≡ from + r * m.stride + k + n = omega arith in ap (λ j. get_or src j 0) q in
+      let lane : get_or t i 0 ≡ four_lane f a b c d i = rw e (rw zero-add at (row_same (replicate 16 0) 0 (four_lane f a b c d) 16 i 0 (omega (arith, tile-lane w h r k lr lk)) (omega arith))) in
+      let on : (n : ℕ) → get_or src (from + n + r * stride + k) 0 ≡ get_or src (from + r * stride + k + n) 0 = λ n. let q : from + n + r * stride + k ≡ from + r * stride + k + n = omega arith in ap (λ j. get_or src j 0) q in
       let pa = ha r k lr lk in
-      let pb = hb r k lr lk ∙ on m.beside in
-      let pc = hc r k lr lk ∙ on m.second in
-      let pd = hd r k lr lk ∙ on (m.beside + m.second) in
-      lane ∙ (λ j. mixed_taps m (pa j) (pb j) (pc j) (pd j))
+      let pb = hb r k lr lk ∙ on beside in
+      let pc = hc r k lr lk ∙ on second in
+      let pd = hd r k lr lk ∙ on (beside + second) in
+      lane ∙ (λ j. f (pa j) (pb j) (pc j) (pd j))
 
 -- ---- blocks one below the other
 inside-rows : {s x y w h size : ℕ} (r t : ℕ) → Inside s x y w h size → r + t ≤ h → Inside s x (y + r) w t size
@@ -133,12 +133,13 @@ pub tile-whole : {l' : List ℕ} (l t : List ℕ) (s x y at w h : ℕ) (value : 
 unfolding Holds
 tile-whole l t s x y at w h value holds stored = stored ∙ painted-values s x y w h (tiled t at w) value l holds
 
--- turn i of a loop by tiles of t rows: how far its rows lie, and that its tile lies in the plane
-pub tile-turn : {s x y w h size n i : ℕ} (t stride : ℕ) → Inside s x y w h size → n ≡ size → i < h / t → (i * t * stride + t * stride ≤ h * stride) × (y + i * t ≤ size) × Inside s x (y + i * t) w t n
-tile-turn {s} {x} {y} {w} {h} {size} {n} {i} t stride inside e l =
-    let r = i * t in
-    let le : r + t ≤ h = omega (arith, more t l, div-add-mod' h t) in
-    (rw (add-mul r t stride) at (mul-le-mul_right stride le), omega (arith, inside.down, le-mul_of_pos_right (y + h) inside.some), rw e (inside-rows r t inside le))
+-- a turn of a loop by tiles of t rows: how far its rows lie, and that its tile lies in the plane
+pub tile-turn : {s x y w h size n : ℕ} (r t stride : ℕ) → Inside s x y w h size → n ≡ size → r + t ≤ h → (r * stride + t * stride ≤ h * stride) × (y + r ≤ size) × Inside s x (y + r) w t n
+tile-turn {s} {x} {y} {w} {h} r t stride inside e le = (rw (add-mul r t stride) at (mul-le-mul_right stride le), omega (arith, inside.down, le-mul_of_pos_right (y + h) inside.some), rw e (inside-rows r t inside le))
+
+-- the same of turn i, of as many as there are whole tiles
+pub turn-lies : {s x y w h size n i : ℕ} (t stride : ℕ) → Inside s x y w h size → n ≡ size → i < h / t → (i * t * stride + t * stride ≤ h * stride) × (y + i * t ≤ size) × Inside s x (y + i * t) w t n
+turn-lies {h = h} {i = i} t stride inside e l = tile-turn (i * t) t stride inside e (omega (arith, more t l, div-add-mod' h t))
 
 -- all turns are all rows
 pub turns-all : {h i : ℕ} (t : ℕ) → i ≤ h / t → h / t ≤ i → h % t ≡ 0 → i * t ≡ h
@@ -149,17 +150,17 @@ unfolding rows
 rows_on l s x y v w r zero = rw (add-zero r)
 rows_on l s x y v w r (suc t) = rw (add-suc r t) (rw (add_assoc y r t) (ap (λ (m : List ℕ). row m ((y + (r + t)) * s + x) (v (r + t)) w) (rows_on l s x y v w r t)))
 
--- a tile below r rows
-pub tile-more : {l l' : List ℕ} (l₀ t : List ℕ) (s x y : ℕ) (m : Mix) (src : List ℕ) (from at w h r : ℕ)
-    → l ≡ rows l₀ s x y (mixed_block m src from) w r → Holds t at w h (mixed_block m src (from + r * m.stride))
+-- a tile below r rows, of any rows that are made by the place that they start at
+pub tile-more : {l l' : List ℕ} (l₀ t : List ℕ) (s x y : ℕ) (value : ℕ → ℕ → ℕ) (stride from at w h r : ℕ)
+    → l ≡ rows l₀ s x y (λ k. value (from + k * stride)) w r → Holds t at w h (λ k. value (from + r * stride + k * stride))
     → l' ≡ painted s x (y + r) w h (tiled t at w) l → Inside s x (y + r) w h (length l)
-    → l' ≡ rows l₀ s x y (mixed_block m src from) w (r + h)
-unfolding Holds mixed_block
-tile-more {l} l₀ t s x y m src from at w h r e holds stored inside =
-    let v = mixed_block m src from in
-    let on : (k : ℕ) → from + r * m.stride + k * m.stride ≡ from + (r + k) * m.stride = λ k. omega (arith, add-mul r k m.stride) in
+    → l' ≡ rows l₀ s x y (λ k. value (from + k * stride)) w (r + h)
+unfolding Holds
+tile-more {l} l₀ t s x y value stride from at w h r e holds stored inside =
+    let v : ℕ → ℕ → ℕ = λ k. value (from + k * stride) in
+    let on : (k : ℕ) → from + r * stride + k * stride ≡ from + (r + k) * stride = λ k. omega (arith, add-mul r k stride) in
     stored
-    ∙ painted-values s x (y + r) w h (tiled t at w) (λ k. v (r + k)) l (λ k c lk lc. holds k c lk lc ∙ ap (λ (j : ℕ). mixed_row m src j c) (on k))
+    ∙ painted-values s x (y + r) w h (tiled t at w) (λ k. v (r + k)) l (λ k c lk lc. holds k c lk lc ∙ ap (λ (j : ℕ). value j c) (on k))
     ∙ sym (rows-painted 0 l (λ k. v (r + k)) inside)
     ∙ ap (λ (k : List ℕ). rows k s x (y + r) (λ j. v (r + j)) w h) e
     ∙ rows_on l₀ s x y v w r h
@@ -169,6 +170,7 @@ pub turn-more : {l l' : List ℕ} (l₀ t : List ℕ) (s x y : ℕ) (m : Mix) (s
     → l ≡ rows l₀ s x y (mixed_block m src from) w (i * h) → Holds t at w h (mixed_block m src (from + i * h * m.stride))
     → l' ≡ painted s x (y + i * h) w h (tiled t at w) l → Inside s x (y + i * h) w h (length l)
     → l' ≡ rows l₀ s x y (mixed_block m src from) w ((i + 1) * h)
+unfolding mixed_block mixed_row paired_block
 turn-more l₀ t s x y m src from at w h i e holds stored inside =
     let next : i * h + h ≡ (i + 1) * h = omega (arith, add-mul i 1 h) in
-    tile-more l₀ t s x y m src from at w h (i * h) e holds stored inside ∙ ap (λ n. rows l₀ s x y (mixed_block m src from) w n) next
+    tile-more l₀ t s x y (mixed_row m src) m.stride from at w h (i * h) e holds stored inside ∙ ap (λ n. rows l₀ s x y (mixed_block m src from) w n) next

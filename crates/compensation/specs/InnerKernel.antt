@@ -6,6 +6,7 @@ use Rattle.ints.specs.Z.{when◌then◌else◌, clamp_z}
 use Rattle.picture.specs.InnerRows.{run}
 use Rattle.compensation.specs.Formula.{formula}
 use Rattle.compensation.specs.declared.mix.Mix.{Mix}
+use Rattle.compensation.specs.declared.mix.Weights.{Weights}
 
 -- four values weighed
 unfoldable pub weighed : ℕ → ℕ → ℕ → ℕ → ℕ → ℕ → ℕ → ℕ → ℕ
@@ -16,20 +17,32 @@ unfoldable pub raised : ℕ → ℕ → ℕ → ℕ
 raised m a b = a + m * (b % 2 - a % 2)
 
 -- two pairs of taps, weighed
-unfoldable pub mixed_taps : Mix → ℕ → ℕ → ℕ → ℕ → ℕ
-mixed_taps m a b c d = let up = raised m.means in weighed m.wa m.wb m.wc m.wd (up a b) (up b a) (up c d) (up d c)
+unfoldable pub mixed_taps : Weights → ℕ → ℕ → ℕ → ℕ → ℕ
+mixed_taps w a b c d = let up = raised w.means in weighed w.wa w.wb w.wc w.wd (up a b) (up b a) (up c d) (up d c)
+
+-- a function of two pairs of taps: the tap at place i with the one `beside` places on, and the two that lie `second` places on from these
+unfoldable pub paired_at : (ℕ → ℕ → ℕ → ℕ → ℕ) → ℕ → ℕ → List ℕ → ℕ → ℕ
+paired_at f beside second src i = f (get_or src i 0) (get_or src (i + beside) 0) (get_or src (i + second) 0) (get_or src (i + (beside + second)) 0)
+
+-- at column c of the row that starts at `from`
+unfoldable pub paired_row : (ℕ → ℕ → ℕ → ℕ → ℕ) → ℕ → ℕ → List ℕ → ℕ → ℕ → ℕ
+paired_row f beside second src from c = paired_at f beside second src (from + c)
+
+-- at column c of row r of the block that starts at `from`, in rows that are `stride` apart
+unfoldable pub paired_block : (ℕ → ℕ → ℕ → ℕ → ℕ) → ℕ → ℕ → List ℕ → ℕ → ℕ → ℕ → ℕ → ℕ
+paired_block f beside second src stride from r = paired_row f beside second src (from + r * stride)
 
 -- the sample whose first tap is i
 unfoldable pub mixed_at : Mix → List ℕ → ℕ → ℕ
-mixed_at m src i = mixed_taps m (get_or src i 0) (get_or src (i + m.beside) 0) (get_or src (i + m.second) 0) (get_or src (i + (m.beside + m.second)) 0)
+mixed_at m = paired_at (mixed_taps m.weights) m.beside m.second
 
 -- at column c of the row that starts at `from`
 unfoldable pub mixed_row : Mix → List ℕ → ℕ → ℕ → ℕ
-mixed_row m src from c = mixed_at m src (from + c)
+mixed_row m = paired_row (mixed_taps m.weights) m.beside m.second
 
 -- at column c of row r of the block that starts at `from`
 unfoldable pub mixed_block : Mix → List ℕ → ℕ → ℕ → ℕ → ℕ
-mixed_block m src from r = mixed_row m src (from + r * m.stride)
+mixed_block m src = paired_block (mixed_taps m.weights) m.beside m.second src m.stride
 
 -- how far a phase goes: 0 not at all, 1 a third of the way, 2 half of it, 3 two thirds
 unfoldable pub way : ℕ → ℕ
@@ -48,11 +61,11 @@ pub record MixSaid (stride : ℕ) (halfway : Bool) (code : ℕ) (m : Mix) : Type
   pub rows : m.stride ≡ stride
   pub beside : m.beside ≡ (when halfway then stride else 1)
   pub second : m.second ≡ (when halfway then 1 else stride)
-  pub means : m.means ≡ code / 32768
-  pub wa : m.wa ≡ code % 16
-  pub wb : m.wb ≡ code / 16 % 16
-  pub wc : m.wc ≡ code / 256 % 16
-  pub wd : m.wd ≡ code / 4096 % 8
+  pub means : m.weights.means ≡ code / 32768
+  pub wa : m.weights.wa ≡ code % 16
+  pub wb : m.weights.wb ≡ code / 16 % 16
+  pub wc : m.weights.wc ≡ code / 256 % 16
+  pub wd : m.weights.wd ≡ code / 4096 % 8
 
 -- a function of the four taps at place i
 unfoldable pub four_at : (ℕ → ℕ → ℕ → ℕ → ℕ) → List ℕ → ℕ → ℕ → ℕ → ℕ

@@ -30,6 +30,10 @@ taken_at src stride from r c = get_or src (from + r * stride + c) 0
 unfoldable pub Holds : List ℕ → ℕ → ℕ → ℕ → (ℕ → ℕ → ℕ) → Type 0
 Holds t at w h value = (r c : ℕ) → r < h → c < w → tiled t at w r c ≡ value r c
 
--- lane k of four tiles, mixed: one tile for each tap
+-- a function of lane k of four tiles: one tile for each tap
+unfoldable pub four_lane : (ℕ → ℕ → ℕ → ℕ → ℕ) → List ℕ → List ℕ → List ℕ → List ℕ → ℕ → ℕ
+four_lane f first beside second last k = f (get_or first k 0) (get_or beside k 0) (get_or second k 0) (get_or last k 0)
+
+-- lane k of four tiles, mixed
 unfoldable pub mixed_lane : Mix → List ℕ → List ℕ → List ℕ → List ℕ → ℕ → ℕ
-mixed_lane m first beside second last k = mixed_taps m (get_or first k 0) (get_or beside k 0) (get_or second k 0) (get_or last k 0)
+mixed_lane m = four_lane (mixed_taps m.weights)

@@ -6,7 +6,7 @@ ghost use Rattle.compensation.specs.Formula.{formula};
 ghost use Rattle.compensation.specs.InnerKernel.{weighed, raised, mixed_taps, mixed_row, mixed_block, MixFor, way, mixes, mix_code, four_block, extra};
 ghost use Rattle.compensation.specs.InnerBlock.{Span};
 
-use crate::mix::{Mix, Phases};
+use crate::mix::{Mix, Phases, Weights};
 use picture::Block;
 use picture::rows::store_row;
 
@@ -19,7 +19,7 @@ fn raise(m: u8, a: u8, b: u8) -> u8
     a | (b & m)
 }
 
-impl Mix {
+impl Weights {
     // The sum never passes 3,066.
     fn weigh(self, a: u8, b: u8, c: u8, d: u8) -> u8
         ensures { result ≡ weighed self.wa self.wb self.wc self.wd a b c d }
@@ -41,6 +41,14 @@ impl Mix {
             raise(m, c, d),
             raise(m, d, c),
         )
+    }
+}
+
+impl Mix {
+    pub fn sample(self, a: u8, b: u8, c: u8, d: u8) -> u8
+        ensures { result ≡ mixed_taps self.weights a b c d }
+    {
+        self.weights.sample(a, b, c, d)
     }
 }
 
@@ -113,11 +121,13 @@ pub fn mix_of(p: Phases, stride: usize) -> Mix
         stride,
         beside,
         second,
-        means: (code / 32768) as u8,
-        wa: (code % 16) as u16,
-        wb: (code / 16 % 16) as u16,
-        wc: (code / 256 % 16) as u16,
-        wd: (code / 4096 % 8) as u16,
+        weights: Weights {
+            means: (code / 32768) as u8,
+            wa: (code % 16) as u16,
+            wb: (code / 16 % 16) as u16,
+            wc: (code / 256 % 16) as u16,
+            wd: (code / 4096 % 8) as u16,
+        },
     }
 }
 

@@ -1,7 +1,7 @@
 // What a record asks for is read, with what it is to leave, and made in every form that there is of it.
 use crate::decoded::read_back;
 use crate::head::{Film, Work};
-use crate::lend::{Case, Given, unwritten};
+use crate::lend::{Case, Given, put_unwritten};
 use crate::replayed::check_agrees;
 use crate::start::{Planes, State, put};
 use crate::{decoded, ran};
@@ -36,6 +36,8 @@ fn take_end(end: &mut State, film: &Film) -> bool {
 }
 
 // The transcript that is to be left: the record's bytes behind what was used, and what was there everywhere else.
+// Not inlined, so that its array lies in no other function's part of the stack.
+#[inline(never)]
 fn take_transcript(expected: &mut [u8; 8192], film: &Film) -> bool {
     let mut bytes = [0u8; 8192];
     match read(&mut bytes, film.written) {
@@ -57,7 +59,8 @@ pub fn film_agrees(state: &mut State, reference: &Planes, film: &Film) -> bool {
     let Some(bits) = read(&mut bits, film.bits) else {
         return false;
     };
-    let mut expected = unwritten();
+    let mut expected = [0u8; 8192];
+    put_unwritten(&mut expected);
     let mut end = *state;
     let written = take_transcript(&mut expected, film);
     let whole = take_end(&mut end, film);

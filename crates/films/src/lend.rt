@@ -23,12 +23,10 @@ pub struct Case<'a> {
 }
 
 // A transcript of which nothing is written: bytes that no record has at every place, since each differs from its neighbours.
-pub fn unwritten() -> [u8; 8192] {
-    let mut transcript = [0u8; 8192];
+pub fn put_unwritten(transcript: &mut [u8; 8192]) {
     for (i, byte) in transcript.iter_mut().enumerate() {
         *byte = (i % 251) as u8;
     }
-    transcript
 }
 
 impl Case<'_> {
@@ -36,7 +34,7 @@ impl Case<'_> {
     // `made` makes the work by one entry, and says whether it is answered as expected.
     fn agrees<W, F: FnOnce(&mut Picture, &mut [u8], Given, W) -> bool>(
         &self,
-        mut transcript: [u8; 8192],
+        transcript: &mut [u8; 8192],
         room: usize,
         made: F,
         work: W,
@@ -54,10 +52,11 @@ impl Case<'_> {
         };
         let room = room.min(8192);
         let answer = made(&mut picture, &mut transcript[..room], self.given, work);
-        answer & (left == *self.end) & (transcript == *self.transcript)
+        answer & (left == *self.end) & (*transcript == *self.transcript)
     }
 
-    // A macroblock or a run.
+    // A macroblock or a run. Not inlined, here and below: the state and the transcript of each form would lie beside those of the others on the stack.
+    #[inline(never)]
     pub fn is_made<W, F: FnOnce(&mut Picture, &mut [u8], Given, W) -> bool>(
         &self,
         made: F,
@@ -65,14 +64,18 @@ impl Case<'_> {
     ) -> bool
         requires { F.IsAlwaysCallable made }
     {
-        self.agrees(unwritten(), self.given.film.room, made, work)
+        let mut transcript = [0u8; 8192];
+        put_unwritten(&mut transcript);
+        self.agrees(&mut transcript, self.given.film.room, made, work)
     }
 
     // A replay is lent what is written of the transcript, and leaves it as it is.
+    #[inline(never)]
     pub fn is_replayed(&self) -> bool {
         let film = self.given.film;
+        let mut transcript = *self.transcript;
         self.agrees(
-            *self.transcript,
+            &mut transcript,
             film.written,
             replayed::agrees,
             film.replayed,

@@ -1,8 +1,9 @@
 // The state of a grid of at most six macroblocks, and its reference, as a list gives them.
-ghost use Rattle.std.specs.Prelude.{◌≡◌, ◌<◌, ◌≤◌};
+// A list has a state's bytes in one row: luma, Cb from 1,600 on, Cr from 2,000, the marks from 2,400, and from 2,500 the vectors, four bytes a component.
+ghost use Rattle.std.specs.Prelude.{◌<◌, ◌≤◌};
 
 use lists::{read, take_numbers};
-use picture::{Block, Grid, Reference};
+use picture::{Grid, Reference};
 use state::{Call, Lengths};
 
 #[derive(Clone, Copy, PartialEq)]
@@ -52,30 +53,6 @@ pub fn put<T: Copy>(to: &mut [T], at: usize, given: &[T]) {
     }
 }
 
-// A block given by its rows. What passes the end is left out.
-fn put_block<T: Copy>(to: &mut [T], given: &[T], b: Block)
-    requires { 0 < b.w }
-{
-    for (r, row) in given.chunks_exact(b.w).enumerate() {
-        let at = b.y.saturating_add(r).saturating_mul(b.stride);
-        put(to, at.saturating_add(b.x), row);
-    }
-}
-
-// Where a macroblock of w × h elements lies. The grids of a list are small: ten bits of a column, a row or a width count.
-fn block_of(grid: Grid, call: Call, w: usize, h: usize) -> Block
-    requires { (w ≤ 16) × (h ≤ 16) }
-    ensures { result.w ≡ w }
-{
-    Block {
-        stride: w * (grid.cols % 1024),
-        x: w * (call.column as usize % 1024),
-        y: h * (call.row as usize % 1024),
-        w,
-        h,
-    }
-}
-
 impl State {
     pub fn new() -> State {
         State {
@@ -85,16 +62,19 @@ impl State {
         }
     }
 
-    // The vectors and the marks of n macroblocks.
-    pub fn take_cells(&mut self, n: usize) -> bool {
+    fn vector_bytes(&self) -> [u8; 800] {
         let mut bytes = [0u8; 800];
-        let vectors = match read(&mut bytes, n.saturating_mul(128)) {
-            Some(bytes) => {
-                take_numbers(&mut self.mv, bytes);
-                true
-            }
-            None => false,
-        };
+        for (four, component) in bytes.chunks_exact_mut(4).zip(&self.mv) {
+            four.copy_from_slice(&component.to_le_bytes());
+        }
+        bytes
+    }
+
+    // The vectors and the marks of n macroblocks. What came of vectors that did not all come is kept too, as of the other parts.
+    pub fn take_cells(&mut self, n: usize) -> bool {
+        let mut bytes = self.vector_bytes();
+        let vectors = read(&mut bytes, n.saturating_mul(128)).is_some();
+        take_numbers(&mut self.mv, &bytes);
         vectors & read(&mut self.marks, n.saturating_mul(16)).is_some()
     }
 
@@ -102,19 +82,60 @@ impl State {
         self.planes.take(n) & self.take_cells(n)
     }
 
-    // The samples, vectors and marks of one macroblock.
+    // A byte, by its place in a list's row of all. One past the end is left out.
+    fn put(&mut self, at: usize, byte: u8) {
+        if at < 1600 {
+            self.planes.y[at] = byte;
+        } else if at < 2000 {
+            self.planes.cb[at - 1600] = byte;
+        } else if at < 2400 {
+            self.planes.cr[at - 2000] = byte;
+        } else if at < 2500 {
+            self.marks[at - 2400] = byte;
+        } else if at < 3300 {
+            let i = (at - 2500) / 4;
+            let mut four = self.mv[i].to_le_bytes();
+            four[(at - 2500) % 4] = byte;
+            self.mv[i] = i32::from_le_bytes(four);
+        }
+    }
+
+    // A block's rows of w bytes, which lie `stride` apart from place `at` on. A row past the end of its part goes on into the next part.
+    fn put_rows(&mut self, at: usize, stride: usize, w: usize, given: &[u8])
+        requires { 0 < w }
+    {
+        for (r, row) in given.chunks_exact(w).enumerate() {
+            let from = at.saturating_add(r.saturating_mul(stride));
+            for (c, byte) in row.iter().enumerate() {
+                self.put(from.saturating_add(c), *byte);
+            }
+        }
+    }
+
+    // The samples, vectors and marks of one macroblock. The grids of a list are small: ten bits of a column, a row or a width count.
     pub fn take_macroblock(&mut self, grid: Grid, call: Call) -> bool {
         let mut bytes = [0u8; 528];
         let whole = read(&mut bytes, 528).is_some();
-        let mut vectors = [0i32; 32];
-        take_numbers(&mut vectors, &bytes[384..512]);
-        let luma = block_of(grid, call, 16, 16);
-        let chroma = block_of(grid, call, 8, 8);
-        put_block(&mut self.planes.y, &bytes[0..256], luma);
-        put_block(&mut self.planes.cb, &bytes[256..320], chroma);
-        put_block(&mut self.planes.cr, &bytes[320..384], chroma);
-        put_block(&mut self.mv, &vectors, block_of(grid, call, 8, 4));
-        put_block(&mut self.marks, &bytes[512..], block_of(grid, call, 4, 4));
+        let cols = grid.cols % 1024;
+        let x = call.column as usize % 1024;
+        let y = call.row as usize % 1024;
+        let luma = (16 * y) * (16 * cols) + 16 * x;
+        let chroma = (8 * y) * (8 * cols) + 8 * x;
+        self.put_rows(luma, 16 * cols, 16, &bytes[0..256]);
+        self.put_rows(1600 + chroma, 8 * cols, 8, &bytes[256..320]);
+        self.put_rows(2000 + chroma, 8 * cols, 8, &bytes[320..384]);
+        self.put_rows(
+            2500 + (4 * y) * (32 * cols) + 32 * x,
+            32 * cols,
+            32,
+            &bytes[384..512],
+        );
+        self.put_rows(
+            2400 + (4 * y) * (4 * cols) + 4 * x,
+            4 * cols,
+            4,
+            &bytes[512..528],
+        );
         whole
     }
 }

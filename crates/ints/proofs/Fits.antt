@@ -247,6 +247,10 @@ pub clamp-ind : (P : ℤ → Type 0) (lo hi z : ℤ) → (lt_z z lo ≡ true →
 unfolding clamp_z
 clamp-ind P lo hi z f g h = if-ind P (lt_z z lo) lo _ f (λ e. if-ind P (lt_z hi z) hi z (g e) (h e))
 
+-- what answers as `clamp_z` does at each outcome of its two tests
+pub is-clamp : {lo hi z x : ℤ} → (lt_z z lo ≡ true → x ≡ lo) → (lt_z z lo ≡ false → lt_z hi z ≡ true → x ≡ hi) → (lt_z z lo ≡ false → lt_z hi z ≡ false → x ≡ z) → x ≡ clamp_z lo hi z
+is-clamp {lo} {hi} {z} {x} f g h = clamp-ind (λ y. x ≡ y) lo hi z f g h
+
 -- ---- and their ranges
 pub within-if : (n : ℕ) (t : Bool) (x y : ℤ) → Within n x → Within n y → Within n (when t then x else y)
 within-if n t x y h k = if-ind (Within n) t x y (λ _. h) (λ _. k)

@@ -53,6 +53,19 @@ no-over {z} h =
 pub over-sat : (z : ℤ) → (over_z z ≡ false) ↔ (sat_z z ≡ z)
 over-sat z = (λ e. sat-same (over_no z e), λ e. no-over (subst (SFits w32) e (sat-fits z)))
 
+-- a test that tells whether z fits, and with it what `hold` gives
+over-is : {z : ℤ} (b : Bool) → (b ≡ false → SFits w32 z) → (SFits w32 z → b ≡ false) → b ≡ over_z z
+over-is false f g = sym (no-over (f refl))
+over-is {z} true f g = go (over_z z) refl
+  where
+    go : (t : Bool) → over_z z ≡ t → true ≡ over_z z
+    go true e = sym e
+    go false e = g (over_no z e) ∙ sym e
+
+pub held-is : {z v : ℤ} {b : Bool} → v ≡ sat_z z → (b ≡ false → SFits w32 z) → (SFits w32 z → b ≡ false) → ◌≡◌ {A = Held} (record { value = v; over = b }) (held_z z)
+unfolding held_z
+held-is {b = b} h f g = λ i. record { value = h i; over = over-is b f g i }
+
 -- ---- multiples
 times-add : (k : ℕ) (a b : ℤ) → pos k *ℤ (a +ℤ b) ≡ pos k *ℤ a +ℤ pos k *ℤ b
 times-add k a b =

@@ -13,7 +13,7 @@ use mir.Syntax.{w32}
 use mir.Val.{to_z, of_z}
 use mir.Facts.{to_z_pos, to_z-of_z}
 use Rattle.bits.proofs.SignedCode.{neg_is}
-use Rattle.levels.specs.Book.{half, magnitudes, runs, escape, positions, least, chroma_base, escape_magnitude, magnitude, run, level_of, level, resolve}
+use Rattle.levels.specs.Book.{half, magnitudes, runs, escape, positions, least, chroma_base, escape_magnitude, magnitude, run, level_of, level, LevelRun, resolve}
 use Rattle.levels.specs.declared.svq3_coeff.ResidualBook.{ResidualBook}
 use Rattle.levels.specs.declared.svq3_coeff.ResidualBook.TheVariants.{NormalScan, ChromaDc}
 use Rattle.std.specs.Prelude.{Some}
@@ -74,12 +74,17 @@ pub negative : (k m : ℕ) → (k % 2 ≡ 1 → ⊥) → m < 2 ^ 31 → to_z w32
 unfolding level_of
 negative k m o h = rw (ne_eqb (k % 2) 1 o) (neg_is m h)
 
--- ---- what a code k other than 0 says, h its half and z the level
-module _ (book : ResidualBook) (k h : ℕ) (half_is : h ≡ half k) (some : k ≡ 0 → ⊥) (z : ℤ) (fits : mag z < 2 ^ 31) (m r : ℕ) (level_is : z ≡ level_of k m) where
-  pub entry-said : k < escape book → m ≡ get_or (magnitudes book) h 0 → r ≡ get_or (runs book) h 0 → Some (to_z w32 (of_z w32 z), r) ≡ resolve book k
-  unfolding resolve level magnitude run
-  entry-said l e f = rw (to_z-of_z (record { sfits = fits }), ne_eqb k 0 some, lt-ltb k (escape book) l, level_is, e, f, half_is)
+-- ---- level and run are what the book says: h is half of the code k, z the level, m its magnitude and r the run
+module _ (book : ResidualBook) (k h : ℕ) (half_is : h ≡ half k) (z : ℤ) (fits : mag z < 2 ^ 31) (m r : ℕ) (level_is : z ≡ level_of k m) where
+  pub entry-said : k < escape book → m ≡ get_or (magnitudes book) h 0 → r ≡ get_or (runs book) h 0 → ◌≡◌ {A = LevelRun} (Some (to_z w32 (of_z w32 z), r)) (Some (level book k, run book k))
+  unfolding level magnitude run
+  entry-said l e f = rw (to_z-of_z (record { sfits = fits }), lt-ltb k (escape book) l, level_is, e, f, half_is)
 
-  pub escape-said : escape book ≤ k → m ≡ escape_magnitude book r k → r ≡ h % positions book → Some (to_z w32 (of_z w32 z), r) ≡ resolve book k
-  unfolding resolve level magnitude run
-  escape-said l e f = rw (to_z-of_z (record { sfits = fits }), ne_eqb k 0 some, le-ltb k (escape book) l, level_is, e, f, half_is)
+  pub escape-said : escape book ≤ k → m ≡ escape_magnitude book r k → r ≡ h % positions book → ◌≡◌ {A = LevelRun} (Some (to_z w32 (of_z w32 z), r)) (Some (level book k, run book k))
+  unfolding level magnitude run
+  escape-said l e f = rw (to_z-of_z (record { sfits = fits }), le-ltb k (escape book) l, level_is, e, f, half_is)
+
+-- ---- what a code other than 0 says
+pub resolves : (book b : ResidualBook) (k : ℕ) → book ≡ b → (k ≡ 0 → ⊥) → Some (level b k, run b k) ≡ resolve book k
+unfolding resolve
+resolves book b k e some = rw (e, ne_eqb k 0 some)

@@ -62,9 +62,11 @@ impl fmt::Display for Counts {
     }
 }
 
-// Whether the answer is the published one. A question that is not whole, or not known, differs.
-fn agrees(head: Head, question: Option<Question>, plane: &mut Plane) -> bool {
-    if let Some(Question::Plane { width, height }) = question {
+// Whether the answer is the published one. A question that is not whole, or not known, differs. A plane is taken by a whole head alone.
+fn agrees(head: Head, whole: bool, question: Option<Question>, plane: &mut Plane) -> bool {
+    if let Some(Question::Plane { width, height }) = question
+        && whole
+    {
         return plane.take(width, height, head.given());
     }
     let mut given = [0u8; 480];
@@ -111,7 +113,7 @@ fn main(rt: HostRuntime) {
         let mut head = Head([0; 32]);
         let whole = lists::read(&mut head.0, 32).is_some();
         let question = head.question();
-        let same = agrees(head, question, &mut plane);
+        let same = agrees(head, whole, question, &mut plane);
         counts.count(question, whole & same);
     }
     // Where the line cannot be written, it is missed by whoever compares what was printed.

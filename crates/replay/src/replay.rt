@@ -15,6 +15,8 @@ use state::{Frame, Lengths, ask_replay};
 use transcript::check::check_records;
 
 // The work of all records of a transcript that passed the check; answers the quantiser afterwards.
+// Not inlined: what records are read into then lies where the check had its own, and not beside it on the stack.
+#[inline(never)]
 fn replay_records(
     pic: &mut Picture,
     reference: Reference,

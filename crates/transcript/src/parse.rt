@@ -41,6 +41,8 @@ fn read_field(bytes: &[u8], at: usize, most: u32) -> Result<(u32, usize), Refusa
 }
 
 // Column, row and mode of the record at a place, which may lie anywhere, also past the end.
+// Inlined, since its answer would go through memory: the check of a transcript of skips took half as many instructions more.
+#[inline(always)]
 pub fn parse_place(bytes: &[u8], at: usize, grid: Grid) -> Result<(RecordStart, usize), Refusal>
     ensures { result ≡ place_answer at (parse_place grid.cols grid.rows (drop at bytes.now)) }
 {
@@ -59,6 +61,8 @@ pub fn parse_place(bytes: &[u8], at: usize, grid: Grid) -> Result<(RecordStart, 
 }
 
 // Signed numbers, as many as there is room for.
+// Inlined: as a call of its own it is a tenth more of the instructions of a check.
+#[inline(always)]
 fn read_signed_numbers(out: &mut [i32], bytes: &[u8], at: usize) -> Result<usize, Refusal>
     ensures { Left at (read_signeds (length out.old) (drop at bytes.now)) result out.new }
 {
@@ -183,6 +187,7 @@ fn parse_items(
 
 // Pattern, quantiser, levels. That they are zeros is a clause here, in parse_motion and in reading: it holds before the call alone, and a
 // type would hold it afterwards too.
+#[inline(always)]
 fn parse_residual(
     levels: &mut [i32; 392],
     bytes: &[u8],
@@ -199,6 +204,8 @@ fn parse_residual(
 }
 
 // What follows the mode of a record that is no skip, into arrays of zeros: precision, clipped count, vectors, and the residual.
+// Inlined, as the place of a record is.
+#[inline(always)]
 pub fn parse_motion(
     vectors: &mut [i32; 32],
     levels: &mut [i32; 392],

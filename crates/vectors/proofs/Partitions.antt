@@ -212,6 +212,22 @@ mode-byte word table t mode k = eqb→eq _ _ (all-at (λ m. eqb (word / 2 ^ (8 *
 each : (f : ℕ → ℕ → Bool) → T (all (λ m. all (f m) 16) 8) → (mode i : ℕ) → mode ≤ 7 → i < 16 → T (f mode i)
 each f t mode i k l = all-at (f mode) 16 (all-at (λ m. all (f m) 16) 8 t mode (omega arith)) i l
 
+pub offset-x-is : (mode i : ℕ) → mode ≤ 7 → i < 16 → i * partition_width mode % 16 ≡ offset_x mode i
+unfolding partition_width offset_x
+offset-x-is mode i k l = eqb→eq _ _ (each (λ m j. eqb (j * partition_width m % 16) (offset_x m j)) tt mode i k l)
+
+pub offset-y-is : (mode i : ℕ) → mode ≤ 7 → i < 16 → i * partition_width mode / 16 * partition_height mode ≡ offset_y mode i
+unfolding partition_width partition_height offset_y
+offset-y-is mode i k l = eqb→eq _ _ (each (λ m j. eqb (j * partition_width m / 16 * partition_height m) (offset_y m j)) tt mode i k l)
+
+pub product : (mode i : ℕ) → mode ≤ 7 → i < 16 → i * partition_width mode ≤ 256
+unfolding partition_width
+product mode i k l = leb→le _ _ (each (λ m j. leb (j * partition_width m) 256) tt mode i k l)
+
+-- a multiple of a side that is four times another
+fourfold : (n q s : ℕ) → 4 * q ≡ s → n * s ≡ 4 * (n * q)
+fourfold n q s e = rw (sym e) (omega arith)
+
 -- partition i of a mode in cells, as the code has it
 pub record InCells (mode i : ℕ) : Type 0 where
   pub few : i < 16
@@ -225,18 +241,32 @@ pub record InCells (mode i : ℕ) : Type 0 where
   pub part : Part (offset_x mode i / 4) (offset_y mode i / 4) (partition_width mode / 4) (partition_height mode / 4)
 
 pub in_cells : (mode i : ℕ) → mode ≤ 7 → i ≤ num_motion_vectors mode - 1 → InCells mode i
-unfolding partition_width partition_height offset_x offset_y
 in_cells mode i k l = record {
   few = few;
-  x = eqb→eq _ _ (each (λ m j. eqb (j * (partition_width m / 4) % 4) (offset_x m j / 4)) tt mode i k few);
-  y = eqb→eq _ _ (each (λ m j. eqb (j * (partition_width m / 4) / 4 * (partition_height m / 4)) (offset_y m j / 4)) tt mode i k few);
-  product = leb→le _ _ (each (λ m j. leb (j * (partition_width m / 4)) 64) tt mode i k few);
-  x-in_samples = eqb→eq _ _ (each (λ m j. eqb (4 * (offset_x m j / 4)) (offset_x m j)) tt mode i k few);
-  y-in_samples = eqb→eq _ _ (each (λ m j. eqb (4 * (offset_y m j / 4)) (offset_y m j)) tt mode i k few);
-  wide-in_samples = omega (arith, (cut 2 mode (omega arith) k).exact-w);
-  high-in_samples = omega (arith, (cut 2 mode (omega arith) k).exact-h);
+  x = omega (arith, across, offset-x-is mode i k few);
+  y = omega (arith, down);
+  product = omega (arith, across, product mode i k few);
+  x-in_samples = omega (arith, across, offset-x-is mode i k few);
+  y-in_samples = omega (arith, down);
+  wide-in_samples = wide;
+  high-in_samples = high;
   part = part_of mode i k (among mode i k l);
 }
   where
     few : i < 16
     few = omega (arith, num-most mode k, l)
+
+    wide : 4 * (partition_width mode / 4) ≡ partition_width mode
+    wide = omega (arith, (cut 2 mode (omega arith) k).exact-w)
+
+    high : 4 * (partition_height mode / 4) ≡ partition_height mode
+    high = omega (arith, (cut 2 mode (omega arith) k).exact-h)
+
+    across : i * partition_width mode ≡ 4 * (i * (partition_width mode / 4))
+    across = fourfold i (partition_width mode / 4) (partition_width mode) wide
+
+    row : i * partition_width mode / 16 ≡ i * (partition_width mode / 4) / 4
+    row = omega (arith, across)
+
+    down : offset_y mode i ≡ 4 * (i * (partition_width mode / 4) / 4 * (partition_height mode / 4))
+    down = sym (offset-y-is mode i k few) ∙ ap (λ n. n * partition_height mode) row ∙ fourfold (i * (partition_width mode / 4) / 4) (partition_height mode / 4) (partition_height mode) high

@@ -13,10 +13,11 @@ use picture::{Cells, Grid};
 
 // 6 × 5 cells by rows: the macroblock's 4 × 4, a column on either side and a row above.
 // Two arrays: as one of Option<Vector>, loading, prediction and storing took a quarter more instructions.
+// Open, so that a caller may lend a window of its own.
 #[derive(Clone, Copy)]
 pub struct Neighbours {
-    vectors: [Vector; 30],
-    marks: [u8; 30],
+    pub vectors: [Vector; 30],
+    pub marks: [u8; 30],
     pub ghost vectors_len: { length vectors ≡ 30 },
     pub ghost marks_len: { length marks ≡ 30 },
 }

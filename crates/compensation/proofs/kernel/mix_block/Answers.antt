@@ -3,7 +3,7 @@ use mathlib.Core.Path.{◌≡◌, refl, ◌∙◌}
 use native.Mathlib.Omega.{arith}
 use Rattle.picture.specs.InnerRows.{rows}
 use Rattle.picture.proofs.Laws.{rows_more, rows-painted}
-use Rattle.compensation.specs.InnerKernel.{mixed_block}
+use Rattle.compensation.specs.InnerKernel.{paired_block, mixed_row, mixed_block}
 use Rattle.compensation.proofs.kernel.mix_block.Goals.{In-loop-r}
 use Rattle.compensation.proofs.kernel.mix_block.Goals as goal
 
@@ -12,7 +12,7 @@ unfolding rows
 loop-r-init c = (refl, refl)
 
 pub loop-r-preserved : goal.loop-r-preserved
-unfolding mixed_block
+unfolding mixed_block mixed_row paired_block
 loop-r-preserved c =
     let a = c.args in
     let l = c.loop-r in

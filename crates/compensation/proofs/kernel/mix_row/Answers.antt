@@ -4,7 +4,7 @@ use native.Mathlib.Nat.{zero-add}
 use native.Mathlib.Omega.{arith}
 use Rattle.picture.specs.InnerRows.{row}
 use Rattle.picture.proofs.Laws.{row_more}
-use Rattle.compensation.specs.InnerKernel.{mixed_at, mixed_row}
+use Rattle.compensation.specs.InnerKernel.{paired_at, paired_row, mixed_row}
 use Rattle.compensation.proofs.Lanes.{part-row, part-size}
 use Rattle.compensation.proofs.kernel.mix_row.Goals as goal
 
@@ -13,7 +13,7 @@ unfolding row
 loop-c-init c = refl
 
 pub loop-c-preserved : goal.loop-c-preserved
-unfolding mixed_row mixed_at
+unfolding mixed_row paired_row paired_at
 loop-c-preserved c =
     let a = c.args in
     let l = c.loop-c in

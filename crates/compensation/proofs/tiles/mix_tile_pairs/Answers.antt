@@ -7,16 +7,16 @@ use lib.ListN.{length}
 use Rattle.picture.specs.Painted.{Inside}
 use Rattle.picture.specs.InnerRows.{rows}
 use Rattle.picture.proofs.Laws.{rows-painted}
-use Rattle.compensation.proofs.Lanes.{roomier, two, tile-turn, turns-all, turn-more}
+use Rattle.compensation.proofs.Lanes.{roomier, two, turn-lies, turns-all, turn-more}
 use Rattle.compensation.proofs.tiles.mix_tile_pairs.Given.{Over}
 use Rattle.compensation.proofs.tiles.mix_tile_pairs.Goals.{In-loop-i}
 use Rattle.compensation.proofs.tiles.mix_tile_pairs.Goals as goal
 
 cb-lies : (g : Over) (c : In-loop-i g) → let b = c.args.b in let m = c.args.mix in let r = c.loop-i.i * g.row.H in (r * m.stride + g.row.H * m.stride ≤ b.h * m.stride) × (b.y + r ≤ length c.args.cb.now) × Inside b.stride b.x (b.y + r) g.row.W g.row.H (length c.loop-i.cb)
-cb-lies g c = tile-turn g.row.H c.args.mix.stride (rw c.requires.tile.1 at c.requires.block_in.0) c.loop-i.invariant.0 c.loop-i-test.true
+cb-lies g c = turn-lies g.row.H c.args.mix.stride (rw c.requires.tile.1 at c.requires.block_in.0) c.loop-i.invariant.0 c.loop-i-test.true
 
 cr-lies : (g : Over) (c : In-loop-i g) → let b = c.args.b in let m = c.args.mix in let r = c.loop-i.i * g.row.H in (r * m.stride + g.row.H * m.stride ≤ b.h * m.stride) × (b.y + r ≤ length c.args.cr.now) × Inside b.stride b.x (b.y + r) g.row.W g.row.H (length c.loop-i.cr)
-cr-lies g c = tile-turn g.row.H c.args.mix.stride (rw c.requires.tile.1 at c.requires.block_in.1) c.loop-i.invariant.1 c.loop-i-test.true
+cr-lies g c = turn-lies g.row.H c.args.mix.stride (rw c.requires.tile.1 at c.requires.block_in.1) c.loop-i.invariant.1 c.loop-i-test.true
 
 pub loop-i-init : goal.loop-i-init
 unfolding rows
@@ -37,7 +37,7 @@ pub store_lanes-requires : goal.store_lanes-requires
 store_lanes-requires g c = let m = c.requires.tile.0 in (roomier m, rw (zero-add (g.row.W * g.row.H)) (roomier m).room, (cb-lies g (goal.at.store_lanes-requires g c).In-loop-i).2)
 
 pub store_lanes-requires-in-loop-i : goal.store_lanes-requires-in-loop-i
-store_lanes-requires-in-loop-i g c = let m = c.requires.tile.0 in (roomier m, two m, (cr-lies g (goal.at.store_lanes-requires-in-loop-i g c).In-loop-i).2)
+store_lanes-requires-in-loop-i g c = let m = c.requires.tile.0 in (roomier m, omega (arith, two m), (cr-lies g (goal.at.store_lanes-requires-in-loop-i g c).In-loop-i).2)
 
 pub loop-i-preserved : goal.loop-i-preserved
 loop-i-preserved g c =

@@ -7,13 +7,13 @@ use lib.ListN.{length}
 use Rattle.picture.specs.Painted.{Inside}
 use Rattle.picture.specs.InnerRows.{rows}
 use Rattle.picture.proofs.Laws.{rows-painted}
-use Rattle.compensation.proofs.Lanes.{tile-turn, turns-all, turn-more}
+use Rattle.compensation.proofs.Lanes.{turn-lies, turns-all, turn-more}
 use Rattle.compensation.proofs.tiles.mix_tiles.Given.{Over}
 use Rattle.compensation.proofs.tiles.mix_tiles.Goals.{In-loop-i}
 use Rattle.compensation.proofs.tiles.mix_tiles.Goals as goal
 
 lies : (g : Over) (c : In-loop-i g) → let a = c.args in let l = c.loop-i in let r = l.i * g.row.H in (r * a.mix.stride + g.row.H * a.mix.stride ≤ a.b.h * a.mix.stride) × (a.b.y + r ≤ length a.dst.now) × Inside a.b.stride a.b.x (a.b.y + r) g.row.W g.row.H (length l.dst)
-lies g c = tile-turn g.row.H c.args.mix.stride (rw c.requires.tile.1 at c.requires.block_in.0) c.loop-i.invariant.0 c.loop-i-test.true
+lies g c = turn-lies g.row.H c.args.mix.stride (rw c.requires.tile.1 at c.requires.block_in.0) c.loop-i.invariant.0 c.loop-i-test.true
 
 pub loop-i-init : goal.loop-i-init
 unfolding rows

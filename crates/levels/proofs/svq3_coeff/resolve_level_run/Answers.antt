@@ -7,7 +7,7 @@ use borrow.Author.Tests.{eq-eqb}
 use Rattle.levels.specs.Book.{magnitudes, runs, escape, positions, least, chroma_base, escape_magnitude, resolve}
 use Rattle.levels.specs.declared.svq3_coeff.ResidualBook.{ResidualBook}
 use Rattle.levels.specs.declared.svq3_coeff.ResidualBook.TheVariants.{NormalScan, ChromaDc}
-use Rattle.levels.proofs.Entries.{escape-most, below-positions, least-range, escape-few, entry-said, escape-said}
+use Rattle.levels.proofs.Entries.{escape-most, below-positions, least-range, escape-few, entry-said, escape-said, resolves}
 use Rattle.levels.proofs.ShortTable.{digits}
 use Rattle.levels.proofs.svq3_coeff.resolve_level_run.Goals.{Joined-book, Joined-book-2, in-NormalScan, in-ChromaDc, in-NormalScan-book, in-ChromaDc-book}
 use Rattle.levels.proofs.svq3_coeff.resolve_level_run.Goals as goal
@@ -36,7 +36,7 @@ returns-then-code-escape c =
     let t = tables (goal.at.returns-then-code-escape c).Joined-book in
     let l : a.code < escape a.book = omega (arith, c.if-code-escape.true, t.first) in
     let i : h.result < 16 = omega (arith, escape-most a.book) in
-    entry-said a.book a.code h.result h.ensures c.if-code-eq0.false c.level_of.result c.level_of.type_inv _ _ c.level_of.ensures l (c.digit-magnitude.ensures ∙ t.magnitude h.result i) (c.digit.ensures ∙ t.run h.result i)
+    entry-said a.book a.code h.result h.ensures c.level_of.result c.level_of.type_inv _ _ c.level_of.ensures l (c.digit-magnitude.ensures ∙ t.magnitude h.result i) (c.digit.ensures ∙ t.run h.result i) ∙ resolves a.book a.book a.code refl c.if-code-eq0.false
 
 -- the magnitude of an escape is the definition's
 escapes : (c : Joined-book-2) → Tables c.args.book c.match-book.magnitudes → c.match-book-2.magnitude ≡ escape_magnitude c.args.book (c.half_of-half.result % c.positions_of.result) c.args.code
@@ -66,4 +66,4 @@ returns c =
     let t = tables (goal.at.returns c).Joined-book in
     let l : escape a.book ≤ a.code = omega (arith, c.if-code-escape.false, t.first) in
     let r : h.result % c.positions_of.result ≡ h.result % positions a.book = rw c.positions_of.ensures refl in
-    escape-said a.book a.code h.result h.ensures c.if-code-eq0.false c.level_of-2.result c.level_of-2.type_inv _ _ c.level_of-2.ensures l (escapes (goal.at.returns c).Joined-book-2 t) r
+    escape-said a.book a.code h.result h.ensures c.level_of-2.result c.level_of-2.type_inv _ _ c.level_of-2.ensures l (escapes (goal.at.returns c).Joined-book-2 t) r ∙ resolves a.book a.book a.code refl c.if-code-eq0.false

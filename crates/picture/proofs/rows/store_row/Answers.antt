@@ -1,22 +1,24 @@
--- `picture::rows::store_row` meets its contract: the part of `plane` is that of `block`.
-use mathlib.Core.Path.{◌≡◌, sym, ◌∙◌}
-use Prim.Native.Nat.{◌+◌, ◌-◌}
+-- `picture::rows::store_row` meets its contract: what the row held is stored, one sample a turn.
+use mathlib.Core.Path.{◌≡◌, refl, ◌∙◌}
+use native.Mathlib.Nat.{zero-add}
+use native.Mathlib.Numerals.{add-one}
 use native.Mathlib.Omega.{arith}
-use lib.ListN.{length, take, drop, length-take, length-drop}
-use lib.Seq.{get_or-take, get_or-drop}
-use Rattle.std.proofs.lemmas.List.{take_at}
-use Rattle.std.proofs.lemmas.Slice.{put_mid-paste}
-use Rattle.picture.specs.InnerRows.{run}
-use Rattle.picture.proofs.Laws.{row-paste}
+use lib.ListN.{replicate, length-set}
+use Rattle.picture.specs.InnerRows.{row, run}
+use Rattle.picture.proofs.Laws.{row-values, row_same}
 use Rattle.picture.proofs.rows.store_row.Goals as goal
+
+pub loop-c-init : goal.loop-c-init
+unfolding row
+loop-c-init c = (refl, refl)
+
+pub loop-c-preserved : goal.loop-c-preserved
+unfolding row run
+loop-c-preserved c = (simp length-set (omega arith), rw (add-one, c.loop-c.invariant.1, zero-add))
 
 pub returns : goal.returns
 unfolding run
 returns c =
     let a = c.args in
-    let part = take (a.from + a.n - a.from) (drop a.from a.block.now) in
-    let size : a.n ≡ length part = simp (length-take, length-drop) (omega arith) in
-    let read = c.copy_from_slice.ensures.after in
-    let written = c.copy_from_slice-2.ensures.after ∙ take_at c.copy_from_slice.new.self _ a.n (rw read (sym size)) ∙ read in
-    put_mid-paste a.at (a.at + a.n - a.at) a.plane.now c.copy_from_slice-2.new.self part a.n written (omega arith) size
-    ∙ row-paste a.plane.now a.at (run a.block.now a.from) part 0 a.n c.requires.1 (omega arith) (λ k h. rw (get_or-take (a.from + a.n - a.from) (drop a.from a.block.now) k 0 (omega arith)) (get_or-drop a.from a.block.now k 0))
+    let e : c.loop-c.c ≡ a.n = omega arith in
+    c.loop-c.invariant.1 ∙ rw e (row-values a.plane.now a.at _ _ a.n (λ k h. rw c.take_row-t.ensures (row_same (replicate 16 0) 0 (run a.block.now a.from) a.n k 0 h (omega arith))))

@@ -20,7 +20,7 @@ loop-r-preserved c =
     let a = c.args in
     let l = c.loop-r in
     let at = 2 * ((4 * a.row + l.r) * (4 * a.grid.cols) + 4 * a.column) in
-    let zeros = filled-row (pos 0) l.mv at 8 (pos 0) (omega arith) (c.fill.ensures.after (λ y e. e)) (omega (arith, c.requires.1, l.auto.mv, inside-row {r = l.r} c.requires.2 c.loop-r-test.true)) in (
+    let zeros = filled-row (pos 0) l.mv at 8 (pos 0) (omega arith) (c.fill.ensures.after (λ y e. e)) (omega (arith, c.requires.1, l.auto.mv, inside-row {r = l.r} c.requires.2 (omega (arith, c.loop-r-test.true)))) in (
       pairs-more _ _ _ _ _ _ 4 l.r l.invariant.0 (zeros ∙ λ i. row l.mv at (λ k. pair_same (pos 0) 0 k i) 8),
       rows_more _ _ _ _ (always 1) _ l.r l.invariant.1 c.mark_row.ensures,
     )

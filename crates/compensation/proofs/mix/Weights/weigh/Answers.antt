@@ -1,7 +1,7 @@
--- `Mix::weigh` answers `weighed`.
+-- `Weights::weigh` answers `weighed`.
 use mathlib.Core.Path.{refl}
 use Rattle.compensation.specs.InnerKernel.{weighed}
-use Rattle.compensation.proofs.mix.Mix.weigh.Goals as goal
+use Rattle.compensation.proofs.mix.Weights.weigh.Goals as goal
 
 pub returns : goal.returns
 unfolding weighed

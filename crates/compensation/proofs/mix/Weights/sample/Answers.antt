@@ -1,7 +1,7 @@
--- `Mix::sample` answers `mixed_taps`.
+-- `Weights::sample` answers `mixed_taps`.
 use mathlib.Core.Path.{refl}
 use Rattle.compensation.specs.InnerKernel.{mixed_taps}
-use Rattle.compensation.proofs.mix.Mix.sample.Goals as goal
+use Rattle.compensation.proofs.mix.Weights.sample.Goals as goal
 
 pub returns : goal.returns
 unfolding mixed_taps
